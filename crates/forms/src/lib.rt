@@ -1,0 +1,3 @@
+// Written forms: how operators write positions.
+pub mod count;
+pub mod form;

@@ -1,0 +1,2 @@
+// Timebases: a length and a rule that gives each position below it a sample.
+pub mod base;
