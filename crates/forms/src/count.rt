@@ -24,10 +24,18 @@ pub impl WrittenForm for PlainCount as PlainCountForm {
     }
 
     fn read(&self, v: u64) -> Result<u64, Refusal> {
-        if v < 68_719_476_736 { Ok(v) } else { Err(Refusal::NotWritten) }
+        if v < 68_719_476_736 {
+            Ok(v)
+        } else {
+            Err(Refusal::NotWritten)
+        }
     }
 
     fn write(&self, n: u64) -> Result<u64, Refusal> {
-        if n < 68_719_476_736 { Ok(n) } else { Err(Refusal::NotBelowCount) }
+        if n < 68_719_476_736 {
+            Ok(n)
+        } else {
+            Err(Refusal::NotBelowCount)
+        }
     }
 }

@@ -1,0 +1,83 @@
+// What can be done with a book.
+ghost use mathlib.Core.Path.{_≡_};
+ghost use mathlib.Core.List.{[]};
+ghost use mathlib.Core.Bool.{cond};
+ghost use Prim.Native.Nat.{min, _≤_};
+ghost use lib.Dec.{ltb};
+ghost use lib.ListN.{length};
+ghost use Rattle.book.specs.Cues.{entered, has, struck, Rising, Splits};
+ghost use Rattle.book.specs.Held.{cues, room};
+use crate::cue::Cue;
+use crate::halving::split_at;
+use crate::pages::Book;
+use crate::scan::entry_of;
+use crate::scan::find_number;
+
+// How many places a book uses at most.
+pub const MOST_CUES: usize = 4096;
+
+impl<'m, V: Copy> Book<'m, V> {
+    // An empty book over the lent places.
+    pub fn new(places: &'m mut [Cue<V>]) -> Self
+        ensures empty { λ r. ⌜ cues r ≡ [] ⌝ }
+        ensures room { λ r. ⌜ room r ≡ min (length (now (places .entry))) 4096 ⌝ }
+    {
+        Book { places, len: 0 }
+    }
+
+    // The cues, in the book's order.
+    pub fn held(&self) -> &[Cue<V>]
+        ensures { λ r. ⌜ now r ≡ cues (now (self .entry)) ⌝ }
+    {
+        let n = self.len.min(self.places.len());
+        &self.places[0..n]
+    }
+
+    // Whether a cue of this number is in.
+    pub fn has(&self, number: u64) -> bool
+        ensures { λ r. ⌜ r ≡ has number (cues (now (self .entry))) ⌝ }
+    {
+        find_number(self.held(), number).is_some()
+    }
+
+    // How many cues stand below a position, found by halving.
+    pub fn below(&self, position: u64) -> usize
+        ensures bound { λ r. ⌜ r ≤ length (cues (now (self .entry))) ⌝ }
+        ensures splits { λ r. ⌜ (Rising (cues (now (self .entry))) → Splits V (cues (now (self .entry))) position r) ⌝ }
+    {
+        split_at(self.held(), position)
+    }
+
+    // One cue more, in its place by the book's order; false where no place is free.
+    pub fn enter(&mut self, cue: Cue<V>) -> bool
+        ensures value { λ r. ⌜ r ≡ ltb (length (cues (now (self .entry)))) (room (now (self .entry))) ⌝ }
+        ensures after { λ r. ⌜ cues (now (self .exit)) ≡ cond r (entered cue (cues (now (self .entry)))) (cues (now (self .entry))) ⌝ }
+        ensures room { λ _. ⌜ room (now (self .exit)) ≡ room (now (self .entry)) ⌝ }
+    {
+        let n = self.len.min(self.places.len());
+        let most = self.places.len().min(MOST_CUES);
+        if n >= most {
+            return false;
+        }
+        let i = entry_of(self.held(), cue);
+        self.places.copy_within(i..n, i + 1);
+        self.places[i] = cue;
+        self.len = n + 1;
+        true
+    }
+
+    // The cue of a number taken out; false where none is in.
+    pub fn strike(&mut self, number: u64) -> bool
+        ensures value { λ r. ⌜ r ≡ has number (cues (now (self .entry))) ⌝ }
+        ensures after { λ _. ⌜ cues (now (self .exit)) ≡ struck number (cues (now (self .entry))) ⌝ }
+        ensures room { λ _. ⌜ room (now (self .exit)) ≡ room (now (self .entry)) ⌝ }
+    {
+        let n = self.len.min(self.places.len());
+        let Some(i) = find_number(self.held(), number) else {
+            return false;
+        };
+        self.places.copy_within(i + 1..n, i);
+        self.len = n - 1;
+        true
+    }
+}

@@ -1,0 +1,7 @@
+// The cue book and the log, over memory that the host lends.
+pub mod cue;
+pub mod edits;
+mod halving;
+pub mod pages;
+pub mod record;
+pub mod scan;
