@@ -3,12 +3,13 @@
 --   located-least   the count of the positions before s is such an answer
 --   least-unique    there is one such answer
 --   least-located   so every such answer is that count
+--   least-capped    what is past the last sample is reached no earlier than the sample after it
 --   least-from      an answer that parts the positions below the length is the least
 -- Assumes nothing.
 use mathlib.Core.Path.{_≡_, refl, _∙_}
 use mathlib.Core.Bool.{Bool, true, false}
 use mathlib.Core.Logic.{_⊎_, inl, inr}
-use Prim.Native.Nat.{ℕ, _≤_, _<_}
+use Prim.Native.Nat.{ℕ, _≤_, _<_, _^_, min}
 use native.Mathlib.Nat.{le-trans}
 use native.Mathlib.Omega.{arith}
 use lib.Dec.{ltb}
@@ -30,6 +31,13 @@ least-from m s r inside agree =
     { inside = inside
     ; reaches = λ h. agree r h .0 (omega arith)
     ; before = λ p h. elim (cases-lt (m .rule p) s) [ inl l ↦ l | inr l ↦ absurd (let a = agree p (omega arith) .1 l in omega arith) ] }
+
+pub least-capped : (m : Meaning) → Sound m → (s r : ℕ) → Least m (min s (2 ^ 36)) r → Least m s r
+least-capped m sound s r least =
+    record
+    { inside = least .inside
+    ; reaches = λ h. (let a = least .reaches h in let b = sound .within r h in omega arith)
+    ; before = λ p h. (let a = least .before p h in omega arith) }
 
 pub located-least : (m : Meaning) → Sound m → (s : ℕ) → Least m s (located m s)
 located-least m sound s =
