@@ -1,0 +1,4 @@
+pub mod Tally
+pub mod Locates
+pub mod Scales
+pub mod Ratios

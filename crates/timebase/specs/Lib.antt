@@ -1,1 +1,4 @@
 pub mod Meaning
+pub mod Scale
+pub mod Rates
+pub mod Ratio

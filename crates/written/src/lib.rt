@@ -1,0 +1,2 @@
+// Written timebases: a timebase that also says which written form is current at a sample.
+pub mod base;
