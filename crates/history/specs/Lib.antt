@@ -1,0 +1,4 @@
+pub mod World
+pub mod Accepted
+pub mod Contents
+pub mod Laws

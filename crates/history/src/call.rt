@@ -1,0 +1,8 @@
+// The calls that a deck takes after power-up.
+#[derive(Clone, Copy, PartialEq, Eq, Debug)]
+pub enum Call<V> {
+    Add { number: u64, at: V },
+    Strike { number: u64 },
+    Seek { head: u64 },
+    Play { count: u64 },
+}
