@@ -1,1 +1,6 @@
+pub mod Entries
+pub mod Keeping
 pub mod Kept
+pub mod Numbers
+pub mod Single
+pub mod Standing

@@ -41,8 +41,8 @@ abbrev pub holds-of : {A : Type 0} → Option A → (A → Bool) → Bool
 holds-of None test = false
 holds-of (Some x) test = test x
 
--- the highest cue number is 999,999
-abbrev pub numbers : ℕ
+-- cue numbers are below a million (shut, since a count up to it must not be computed)
+unfoldable pub numbers : ℕ
 numbers = 1000000
 
 abbrev pub numbers-in : {V : Type 0} → List (Call V) → ℕ
