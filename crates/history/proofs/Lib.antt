@@ -1,7 +1,11 @@
+pub mod Blocks
+pub mod Cutting
 pub mod Entries
 pub mod Keeping
 pub mod Kept
 pub mod Numbers
 pub mod Once
+pub mod Same
 pub mod Single
 pub mod Standing
+pub mod TwoPlays
