@@ -2,9 +2,11 @@
 ghost use mathlib.Core.Path.{_≡_};
 ghost use mathlib.Core.List.{[]};
 ghost use mathlib.Core.Bool.{cond};
-ghost use Prim.Native.Nat.{min, _≤_};
+ghost use Prim.Native.Nat.{min, _≤_, _<_};
 ghost use lib.Dec.{ltb};
-ghost use lib.ListN.{length};
+ghost use lib.ListN.{length, getD};
+ghost use Rattle.std.specs.Options.{Cases};
+ghost use Rattle.book.specs.declared.cue.Cue.{Cue};
 ghost use Rattle.book.specs.Cues.{entered, has, struck, Rising, Splits};
 ghost use Rattle.book.specs.Held.{cues, room};
 use crate::cue::Cue;
@@ -31,6 +33,13 @@ impl<'m, V: Copy> Book<'m, V> {
     {
         let n = self.len.min(self.places.len());
         &self.places[0..n]
+    }
+
+    // The cue at a place, counted from 0.
+    pub fn at(&self, i: usize) -> Option<Cue<V>>
+        ensures { λ r. ⌜ Cases r (length (cues (now (self .entry))) ≤ i) (λ x. (i < length (cues (now (self .entry)))) × ((d : Cue V) → x ≡ getD (cues (now (self .entry))) i d)) ⌝ }
+    {
+        self.held().get(i).copied()
     }
 
     // Whether a cue of this number is in.

@@ -1,13 +1,16 @@
 -- A deck by the calls that it has had since power-up.
 --   world-of   what a deck's calls are read with: its piles, its form and its memory
 --   Has-had    the deck is as these calls leave it
---   Goes       a call takes a deck that has had some calls to one that has had this call too
---   Answers    what the call answers is read from the calls before it
 --   Keeps      piles, form and memory stay as they were
+--   Logs       a row of the book put to the log
+--   Taken      a call takes a deck that has had some calls to one that has had this call too, and answers by them
 -- Assumes nothing.
 use mathlib.Core.Path.{_≡_}
-use mathlib.Core.List.{List, [], _∷_}
-use Prim.Native.Nat.{ℕ}
+use mathlib.Core.List.{List, [], _∷_, _++_, map}
+use Prim.Native.Nat.{ℕ, _+_, _-_, _≤_, _<_}
+use lib.ListN.{length, getD}
+use Rattle.std.specs.shelf.Lists.{between}
+use Rattle.book.specs.declared.cue.Cue.{Cue}
 use Rattle.std.specs.declared.option.Option.{Option}
 use Rattle.std.specs.declared.option.Option.the-variants.{Some, None}
 use Rattle.std.specs.declared.result.Result.{Result}
@@ -18,7 +21,7 @@ use Rattle.written.specs.Current.{current-at}
 use Rattle.book.specs.Held.{cues, room, lines, log-room}
 use Rattle.history.specs.declared.call.Call.{Call}
 use Rattle.history.specs.World.{World}
-use Rattle.history.specs.Contents.{After}
+use Rattle.history.specs.Contents.{line-of, After}
 use Rattle.history.specs.Laws.{answer}
 use Rattle.deck.specs.declared.state.Deck.{Deck}
 
@@ -32,9 +35,6 @@ module _ {C F L V W : Type 0} where
   abbrev pub Has-had : World V W → List (Call V) → Deck C F L V W → Type 0
   Has-had w calls d = After V W w calls (d .head) (cues (d .book)) (lines (d .log))
 
-  abbrev pub Goes : World V W → Deck C F L V W → Deck C F L V W → Call V → Type 0
-  Goes w before after call = (calls : List (Call V)) → Has-had w calls before → Has-had w (call ∷ calls) after
-
   pub record Keeps (before after : Deck C F L V W) : Type 0 where
     pub piles : after .pile ≡ before .pile
     pub forms : after .form ≡ before .form
@@ -42,7 +42,26 @@ module _ {C F L V W : Type 0} where
     pub places : room (after .book) ≡ room (before .book)
     pub lines : log-room (after .log) ≡ log-room (before .log)
 
--- an answer with no number in it
+  -- a call took one deck to another and answered r, which is read from the calls before it
+  pub record Taken (R : Type 0) (w : World V W) (before after : Deck C F L V W) (call : Call V) (told : Result ℕ Refusal → Result R Refusal) (r : Result R Refusal) : Type 0 where
+    pub says : (calls : List (Call V)) → Has-had w calls before → r ≡ told (answer w calls call)
+    pub leaves : (calls : List (Call V)) → Has-had w calls before → Has-had w (call ∷ calls) after
+    pub keeps : Keeps before after
+
+  -- lines for the cues at the places of the book from `from` to below `to`, put to the log, and nothing else changed
+  pub record Logs (w : World V W) (from to : ℕ) (before after : Deck C F L V W) : Type 0 where
+    pub books : after .book ≡ before .book
+    pub heads : after .head ≡ before .head
+    pub keeps : Keeps before after
+    pub rows : from ≤ to → to ≤ length (cues (before .book))
+      → ((k : ℕ) (d : Cue V) → from ≤ k → k < to → getD (cues (before .book)) k d .position < w .cues .len)
+      → length (lines (before .log)) + (to - from) ≤ w .lines
+      → lines (after .log) ≡ lines (before .log) ++ map (line-of w) (between from to (cues (before .book)))
+
+-- an answer that has no lines to tell
 abbrev pub done : Result ℕ Refusal → Result (Unit {0}) Refusal
 done (Ok n) = Ok tt
 done (Err e) = Err e
+
+abbrev pub lines-added : Result ℕ Refusal → Result ℕ Refusal
+lines-added r = r
