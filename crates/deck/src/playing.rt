@@ -38,4 +38,29 @@ impl<'m, C: Timebase, F: WrittenForm, L: WrittenTimebase> Deck<'m, C, F, L> {
             self.log_one(i);
         }
     }
+
+    // The head moved on by a count of samples. Since samples never fall along positions, the cues that the block
+    // crosses stand in a row of the book, which two halvings find.
+    pub fn play(&mut self, count: u64) -> Result<u64, Refusal>
+        ensures run { λ r. ⌜ Taken ℕ (world-of (C·Timebase .meaning) (F·WrittenForm .number) (L·Timebase .meaning) (L·WrittenTimebase .form) (now (self .entry))) (now (self .entry)) (now (self .exit)) (Play count) lines-added r ⌝ }
+        ensures once { λ _. ⌜ Every-crossing-is-logged-once F·Value L·Shown ⌝ }
+        ensures counts { λ _. ⌜ A-play-answers-its-lines F·Value L·Shown ⌝ }
+        ensures cutting { λ _. ⌜ Cutting-a-play-shows-nowhere F·Value L·Shown ⌝ }
+    {
+        let Some(until) = self.head.checked_add(count) else {
+            return Err(Refusal::HeadPastEnd);
+        };
+        if until > LAST_SAMPLE + 1 {
+            return Err(Refusal::HeadPastEnd);
+        }
+        let from = self.book.below(self.pile.locate(self.head));
+        let to = self.book.below(self.pile.locate(until));
+        let crossed = to.saturating_sub(from);
+        if crossed > self.log.free() {
+            return Err(Refusal::NoFreeLines);
+        }
+        self.log_row(from, to);
+        self.head = until;
+        Ok(crossed as u64)
+    }
 }
