@@ -77,7 +77,7 @@ module _ {V W : Type 0} (w : World V W) (a : List (Call V)) (k : Kept V W w a) w
 
   module _ (n : ℕ) (v : V) where
     asked : (range held bad past full : Bool) → out-of-range n ≡ range → has n (book-of w a) ≡ held → not (isSome (w .number v)) ≡ bad → not (isSome (sample-of w v)) ≡ past
-      → leb (w .places) (length (book-of w a)) ≡ full → refusal w a (Add n v) ≡ checked range held bad past full
+        → leb (w .places) (length (book-of w a)) ≡ full → refusal w a (Add n v) ≡ checked range held bad past full
     asked range held bad past full e1 e2 e3 e4 e5 =
         ap (λ b. checked b (isSome (stands n a)) (not (isSome (w .number v))) (not (isSome (sample-of w v))) (leb (w .places) (numbers-in a))) e1
         ∙ ap (λ b. checked range b (not (isSome (w .number v))) (not (isSome (sample-of w v))) (leb (w .places) (numbers-in a))) (sym (has-stands n) ∙ e2)
@@ -116,7 +116,7 @@ module _ {V W : Type 0} (w : World V W) (a : List (Call V)) (k : Kept V W w a) w
   -- the two checks of a strike
   module _ (n : ℕ) where
     struck-by : (range held : Bool) → out-of-range n ≡ range → has n (book-of w a) ≡ held
-      → refusal w a (Strike n) ≡ first ((range, CueOutOfRange) ∷ (not held, CueNotIn) ∷ [])
+        → refusal w a (Strike n) ≡ first ((range, CueOutOfRange) ∷ (not held, CueNotIn) ∷ [])
     struck-by range held e1 e2 =
         ap (λ b. first ((b, CueOutOfRange) ∷ (not (isSome (stands n a)), CueNotIn) ∷ [])) e1
         ∙ ap (λ b. first ((range, CueOutOfRange) ∷ (not b, CueNotIn) ∷ [])) (sym (has-stands n) ∙ e2)

@@ -1,4 +1,5 @@
 pub mod Checks
+pub mod Orders
 pub mod Plays
 pub mod Ranges
 pub mod Rows

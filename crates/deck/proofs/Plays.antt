@@ -34,7 +34,7 @@ use Rattle.deck.proofs.Steps.{Accepts}
 
 module _ {V W : Type 0} (w : World V W) (a : List (Call V)) (n : ℕ) where
   checks : (past full : Bool) → ltb end (head a + n) ≡ past → ltb (w .lines - added w a) (crossed w a n) ≡ full
-    → refusal w a (Play n) ≡ first ((past, HeadPastEnd) ∷ (full, NoFreeLines) ∷ [])
+      → refusal w a (Play n) ≡ first ((past, HeadPastEnd) ∷ (full, NoFreeLines) ∷ [])
   checks past full e1 e2 =
       ap (λ b. first ((b, HeadPastEnd) ∷ (ltb (w .lines - added w a) (crossed w a n), NoFreeLines) ∷ [])) e1
       ∙ ap (λ b. first ((past, HeadPastEnd) ∷ (b, NoFreeLines) ∷ [])) e2
@@ -50,10 +50,9 @@ module _ {V W : Type 0} (w : World V W) (a : List (Call V)) (n : ℕ) where
 
 -- a deck that has had some calls, and where its book is split by the positions of a block's two ends
 module _ {C F L V W : Type 0} (w : World V W) (sound : Sound (w .cues)) (d : Deck C F L V W) (n lo hi f u : ℕ)
-  (low : Least (w .cues) (d .head) lo) (high : Least (w .cues) (d .head + n) hi)
-  (from : Rising (cues (d .book)) → Splits V (cues (d .book)) lo f) (to : Rising (cues (d .book)) → Splits V (cues (d .book)) hi u)
-  (calls : List (Call V)) (had : Has-had w calls d) where
-
+    (low : Least (w .cues) (d .head) lo) (high : Least (w .cues) (d .head + n) hi)
+    (from : Rising (cues (d .book)) → Splits V (cues (d .book)) lo f) (to : Rising (cues (d .book)) → Splits V (cues (d .book)) hi u)
+    (calls : List (Call V)) (had : Has-had w calls d) where
   abbrev past : List (Call V)
   past = accepted w calls
 
@@ -90,8 +89,7 @@ module _ {C F L V W : Type 0} (w : World V W) (sound : Sound (w .cues)) (d : Dec
       (subst (λ k. w .lines - added w past < k) (sym crosses) (subst (λ k. w .lines - k < u - f) used l))
 
   module _ {R : Type 0} (told : Result ℕ Refusal → Result R Refusal) (e : Deck C F L V W) (logged : Logs w f u d e) (until : ℕ) (is : until ≡ d .head + n)
-    (inside : until ≤ end) (free : u - f ≤ w .lines - length (lines (d .log))) (k : ℕ) (counts : k ≡ u - f) where
-
+      (inside : until ≤ end) (free : u - f ≤ w .lines - length (lines (d .log))) (k : ℕ) (counts : k ≡ u - f) where
     appended : lines (e .log) ≡ lines (d .log) ++ map (line-of w) (between f u (cues (d .book)))
     appended =
         let o = ordered w sound (cues (d .book)) good (d .head) n lo hi f u low high (from rises) (to rises) in
@@ -99,10 +97,11 @@ module _ {C F L V W : Type 0} (w : World V W) (sound : Sound (w .cues)) (d : Dec
         logged .rows o (to rises .inside) row-good (omega arith)
 
     pub accepts : Accepts w d (Play n) told (record { pile = e .pile; form = e .form; frames = e .frames; book = e .book; log = e .log; head = until }) k past
-    accepts = record
-        { passes = play-passes w past n (subst (λ x. x ≤ end) (is ∙ ap (λ h. h + n) (had .head-is)) inside)
-            (subst (λ x. x ≤ w .lines - added w past) (sym crosses) (subst (λ x. u - f ≤ w .lines - x) used free))
-        ; count = crosses ∙ sym counts
-        ; heads = is ∙ ap (λ h. h + n) (had .head-is)
-        ; books = ap cues (logged .books) ∙ had .cues-are
-        ; logs = appended ∙ ap (λ ls. ls ++ map (line-of w) (between f u (cues (d .book)))) (had .lines-are) ∙ ap (λ ys. log-of w past ++ map (line-of w) ys) (sym row) }
+    accepts = record {
+      passes = play-passes w past n (subst (λ x. x ≤ end) (is ∙ ap (λ h. h + n) (had .head-is)) inside)
+          (subst (λ x. x ≤ w .lines - added w past) (sym crosses) (subst (λ x. u - f ≤ w .lines - x) used free));
+      count = crosses ∙ sym counts;
+      heads = is ∙ ap (λ h. h + n) (had .head-is);
+      books = ap cues (logged .books) ∙ had .cues-are;
+      logs = appended ∙ ap (λ ls. ls ++ map (line-of w) (between f u (cues (d .book)))) (had .lines-are) ∙ ap (λ ys. log-of w past ++ map (line-of w) ys) (sym row);
+    }

@@ -24,10 +24,10 @@ use Rattle.history.proofs.Kept.{Good}
 module _ {X : Type 0} (t : X → Bool) where
   -- a test that holds in a row of m places from f on keeps that row
   pub kept-row : (xs : List X) (f m : ℕ) → f + m ≤ length xs
-    → ((k : ℕ) (d : X) → k < f → t (getD xs k d) ≡ false)
-    → ((k : ℕ) (d : X) → f ≤ k → k < f + m → t (getD xs k d) ≡ true)
-    → ((k : ℕ) (d : X) → f + m ≤ k → k < length xs → t (getD xs k d) ≡ false)
-    → kept-by t xs ≡ take m (drop f xs)
+      → ((k : ℕ) (d : X) → k < f → t (getD xs k d) ≡ false)
+      → ((k : ℕ) (d : X) → f ≤ k → k < f + m → t (getD xs k d) ≡ true)
+      → ((k : ℕ) (d : X) → f + m ≤ k → k < length xs → t (getD xs k d) ≡ false)
+      → kept-by t xs ≡ take m (drop f xs)
   kept-row [] zero zero inside low in-row high = refl
   kept-row [] zero (suc m) inside low in-row high = absurd (omega arith)
   kept-row [] (suc f) m inside low in-row high = absurd (omega arith)
@@ -37,29 +37,28 @@ module _ {X : Type 0} (t : X → Bool) where
   kept-row (x ∷ xs) zero (suc m) inside low in-row high =
       cond-true (t x) (x ∷ kept-by t xs) (kept-by t xs) (in-row 0 x (omega arith) (omega arith))
       ∙ ap (λ ys. x ∷ ys)
-        (kept-row xs zero m (omega arith) (λ k d h. absurd (omega arith)) (λ k d a b. in-row (suc k) d (omega arith) (omega arith))
-        (λ k d a b. high (suc k) d (omega arith) (omega arith)))
+      (kept-row xs zero m (omega arith) (λ k d h. absurd (omega arith)) (λ k d a b. in-row (suc k) d (omega arith) (omega arith))
+      (λ k d a b. high (suc k) d (omega arith) (omega arith)))
   kept-row (x ∷ xs) (suc f) m inside low in-row high =
       cond-false (t x) (x ∷ kept-by t xs) (kept-by t xs) (low 0 x (omega arith))
       ∙ kept-row xs f m (omega arith) (λ k d h. low (suc k) d (omega arith)) (λ k d a b. in-row (suc k) d (omega arith) (omega arith))
-        (λ k d a b. high (suc k) d (omega arith) (omega arith))
+      (λ k d a b. high (suc k) d (omega arith) (omega arith))
 
 pub one-of : {X : Type 0} (xs : List X) → 0 < length xs → X
 one-of [] h = absurd (omega arith)
 one-of (x ∷ xs) h = x
 
 module _ {V W : Type 0} (w : World V W) (sound : Sound (w .cues)) (book : List (Cue V)) (good : All (Good V W w) book)
-  (h n lo hi f u : ℕ) (first : Least (w .cues) h lo) (last : Least (w .cues) (h + n) hi) (from : Splits V book lo f) (to : Splits V book hi u) where
-
+    (h n lo hi f u : ℕ) (first : Least (w .cues) h lo) (last : Least (w .cues) (h + n) hi) (from : Splits V book lo f) (to : Splits V book hi u) where
   lo-hi : lo ≤ hi
   lo-hi = elim (cases-lt hi lo) [
-      inl l ↦ absurd (let a = first .before hi l in let i = first .inside in let b = last .reaches (omega arith) in omega arith)
+    | inl l ↦ absurd (let a = first .before hi l in let i = first .inside in let b = last .reaches (omega arith) in omega arith)
     | inr l ↦ l
-    ]
+  ]
 
   pub ordered : f ≤ u
   ordered = elim (cases-lt u f) [
-      inl l ↦ absurd (
+    | inl l ↦ absurd (
         let i = from .inside in
         let d : Cue V = one-of book (omega arith) in
         let a = from .below u d l in
@@ -67,7 +66,7 @@ module _ {V W : Type 0} (w : World V W) (sound : Sound (w .cues)) (book : List (
         let c = lo-hi in
         omega arith)
     | inr l ↦ l
-    ]
+  ]
 
   -- the play's block, at one place of the book
   module _ (k : ℕ) (d : Cue V) (inside : k < length book) where

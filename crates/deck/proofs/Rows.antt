@@ -49,47 +49,54 @@ joined xs from i le h =
     between-more xs from i d le h ∙ ap (λ ys. between from i xs ++ ys) (sym (one-between xs i d h))
 
 pub line-is : {V W : Type 0} (w : World V W) (x : Cue V) (s : ℕ) (label : Option W) → s ≡ w .cues .rule (x .position) → label ≡ w .label s
-  → record { cue = x .number; sample = s; label = label } ≡ line-of w x
+    → record { cue = x .number; sample = s; label = label } ≡ line-of w x
 line-is w x s label at is =
     ap (λ l. record { cue = x .number; sample = s; label = l }) is ∙ ap (λ t. record { cue = x .number; sample = t; label = w .label t }) at
 
 module _ {C F L V W : Type 0} where
   pub logs-none : (w : World V W) (i : ℕ) (d : Deck C F L V W) → Logs w i i d d
-  logs-none w i d = record
-      { books = refl; heads = refl
-      ; keeps = record { piles = refl; forms = refl; frames = refl; places = refl; lines = refl }
-      ; rows = λ le inside good fits. sym (ap (λ ys. lines (d .log) ++ map (line-of w) ys) (between-none (cues (d .book)) i) ∙ append-nil (lines (d .log))) }
+  logs-none w i d = record {
+    books = refl;
+    heads = refl;
+    keeps = record { piles = refl; forms = refl; frames = refl; places = refl; lines = refl };
+    rows = λ le inside good fits. sym (ap (λ ys. lines (d .log) ++ map (line-of w) ys) (between-none (cues (d .book)) i) ∙ append-nil (lines (d .log)));
+  }
 
   pub keeps-trans : (d e f : Deck C F L V W) → Keeps d e → Keeps e f → Keeps d f
-  keeps-trans d e f a b = record
-      { piles = b .piles ∙ a .piles; forms = b .forms ∙ a .forms; frames = b .frames ∙ a .frames
-      ; places = b .places ∙ a .places; lines = b .lines ∙ a .lines }
+  keeps-trans d e f a b = record {
+    piles = b .piles ∙ a .piles;
+    forms = b .forms ∙ a .forms;
+    frames = b .frames ∙ a .frames;
+    places = b .places ∙ a .places;
+    lines = b .lines ∙ a .lines;
+  }
 
   -- one place more
   pub logs-more : (w : World V W) (from i : ℕ) (d e f : Deck C F L V W) → from ≤ i → Logs w from i d e → Logs w i (i + 1) e f → Logs w from (i + 1) d f
-  logs-more w from i d e f le a b = record
-      { books = b .books ∙ a .books
-      ; heads = b .heads ∙ a .heads
-      ; keeps = keeps-trans d e f (a .keeps) (b .keeps)
-      ; rows = λ up inside good fits.
-          let book : cues (e .book) ≡ cues (d .book) = ap cues (a .books) in
-          let xs = cues (d .book) in
-          let first : lines (e .log) ≡ lines (d .log) ++ map (line-of w) (between from i xs) = a .rows le (omega arith) (λ k x l m. good k x l (omega arith)) (omega arith) in
-          let long : length (lines (e .log)) ≡ length (lines (d .log)) + (i - from)
-              = ap length first ∙ length-append _ _ ∙ ap (λ n. length (lines (d .log)) + n) (length-map (between from i xs) (line-of w) ∙ length-between xs from i (omega arith)) in
-          let second : lines (f .log) ≡ lines (e .log) ++ map (line-of w) (between i (i + 1) (cues (e .book)))
-              = b .rows (omega arith) (subst (λ ys. i + 1 ≤ length ys) (sym book) inside)
-                (λ k x l m. subst (λ ys. getD ys k x .position < w .cues .len) (sym book) (good k x (omega arith) m)) (omega arith) in
-          let grown : map (line-of w) (between from i xs) ++ map (line-of w) (between i (i + 1) (cues (e .book))) ≡ map (line-of w) (between from (i + 1) xs)
-              = ap (λ ys. map (line-of w) (between from i xs) ++ map (line-of w) (between i (i + 1) ys)) book
-                ∙ sym (map-append (line-of w) (between from i xs) (between i (i + 1) xs)) ∙ ap (map (line-of w)) (sym (joined xs from i le (omega arith))) in
-          second ∙ ap (λ ys. ys ++ map (line-of w) (between i (i + 1) (cues (e .book)))) first
-          ∙ append-assoc (lines (d .log)) (map (line-of w) (between from i xs)) (map (line-of w) (between i (i + 1) (cues (e .book))))
-          ∙ ap (λ ys. lines (d .log) ++ ys) grown }
+  logs-more w from i d e f le a b = record {
+    books = b .books ∙ a .books;
+    heads = b .heads ∙ a .heads;
+    keeps = keeps-trans d e f (a .keeps) (b .keeps);
+    rows = λ up inside good fits.
+        let book : cues (e .book) ≡ cues (d .book) = ap cues (a .books) in
+        let xs = cues (d .book) in
+        let first : lines (e .log) ≡ lines (d .log) ++ map (line-of w) (between from i xs) = a .rows le (omega arith) (λ k x l m. good k x l (omega arith)) (omega arith) in
+        let long : length (lines (e .log)) ≡ length (lines (d .log)) + (i - from)
+        = ap length first ∙ length-append _ _ ∙ ap (λ n. length (lines (d .log)) + n) (length-map (between from i xs) (line-of w) ∙ length-between xs from i (omega arith)) in
+        let second : lines (f .log) ≡ lines (e .log) ++ map (line-of w) (between i (i + 1) (cues (e .book)))
+        = b .rows (omega arith) (subst (λ ys. i + 1 ≤ length ys) (sym book) inside)
+        (λ k x l m. subst (λ ys. getD ys k x .position < w .cues .len) (sym book) (good k x (omega arith) m)) (omega arith) in
+        let grown : map (line-of w) (between from i xs) ++ map (line-of w) (between i (i + 1) (cues (e .book))) ≡ map (line-of w) (between from (i + 1) xs)
+        = ap (λ ys. map (line-of w) (between from i xs) ++ map (line-of w) (between i (i + 1) ys)) book
+        ∙ sym (map-append (line-of w) (between from i xs) (between i (i + 1) xs)) ∙ ap (map (line-of w)) (sym (joined xs from i le (omega arith))) in
+        second ∙ ap (λ ys. ys ++ map (line-of w) (between i (i + 1) (cues (e .book)))) first
+        ∙ append-assoc (lines (d .log)) (map (line-of w) (between from i xs)) (map (line-of w) (between i (i + 1) (cues (e .book))))
+        ∙ ap (λ ys. lines (d .log) ++ ys) grown;
+  }
 
   -- two decks with the same piles, form and memory read calls alike
   pub same-world : (pile : C → Meaning) (number : F → V → Option ℕ) (frames : L → Meaning) (form : L → ℕ → Option W) (d e : Deck C F L V W) → Keeps d e
-    → world-of pile number frames form e ≡ world-of pile number frames form d
+      → world-of pile number frames form e ≡ world-of pile number frames form d
   same-world pile number frames form d e k =
       ap (λ x. record { cues = pile x; number = number (e .form); label = current-at (frames (e .frames)) (form (e .frames)); places = room (e .book); lines = log-room (e .log) }) (k .piles)
       ∙ ap (λ x. record { cues = pile (d .pile); number = number x; label = current-at (frames (e .frames)) (form (e .frames)); places = room (e .book); lines = log-room (e .log) }) (k .forms)
@@ -98,8 +105,11 @@ module _ {C F L V W : Type 0} where
       ∙ ap (λ n. record { cues = pile (d .pile); number = number (d .form); label = current-at (frames (d .frames)) (form (d .frames)); places = room (d .book); lines = n }) (k .lines)
 
   pub logs-all : (w : World V W) (from to i : ℕ) (d e : Deck C F L V W) → (from ≤ to → i ≤ to) → to ≤ i → Logs w from i d e → Logs w from to d e
-  logs-all w from to i d e below above a = record
-      { books = a .books; heads = a .heads; keeps = a .keeps
-      ; rows = λ up. let is : i ≡ to = let b = below up in omega arith in
-          subst (λ k. from ≤ k → k ≤ length (cues (d .book)) → ((j : ℕ) (x : Cue V) → from ≤ j → j < k → getD (cues (d .book)) j x .position < w .cues .len)
-            → length (lines (d .log)) + (k - from) ≤ w .lines → lines (e .log) ≡ lines (d .log) ++ map (line-of w) (between from k (cues (d .book)))) is (a .rows) up }
+  logs-all w from to i d e below above a = record {
+    books = a .books;
+    heads = a .heads;
+    keeps = a .keeps;
+    rows = λ up. let is : i ≡ to = let b = below up in omega arith in
+        subst (λ k. from ≤ k → k ≤ length (cues (d .book)) → ((j : ℕ) (x : Cue V) → from ≤ j → j < k → getD (cues (d .book)) j x .position < w .cues .len)
+        → length (lines (d .log)) + (k - from) ≤ w .lines → lines (e .log) ≡ lines (d .log) ++ map (line-of w) (between from k (cues (d .book)))) is (a .rows) up;
+  }

@@ -22,16 +22,18 @@ module _ {C F L V W R : Type 0} (w : World V W) (d : Deck C F L V W) (call : Cal
 
   -- a refusal may move memory, and changes nothing that can be read
   pub refused-by : (e : Deck C F L V W) (why : Refusal) → e .head ≡ d .head → cues (e .book) ≡ cues (d .book) → lines (e .log) ≡ lines (d .log) → Keeps d e
-    → ((calls : List (Call V)) → Has-had w calls d → refusal w (accepted w calls) call ≡ Some why) → Taken R w d e call told (told (Err why))
-  refused-by e why heads books logs keeps checks = record
-      { says = λ calls had. ap (λ o. told (answered o (lines-by w (accepted w calls) call))) (sym (checks calls had))
-      ; leaves = λ calls had.
-          let stays : accepted w calls ≡ accepted w (call ∷ calls) = ap (λ o. with-call w o call (accepted w calls)) (sym (checks calls had)) in
-          record
-          { head-is = heads ∙ had .head-is ∙ ap head stays
-          ; cues-are = books ∙ had .cues-are ∙ ap (book-of w) stays
-          ; lines-are = logs ∙ had .lines-are ∙ ap (log-of w) stays }
-      ; keeps = keeps }
+      → ((calls : List (Call V)) → Has-had w calls d → refusal w (accepted w calls) call ≡ Some why) → Taken R w d e call told (told (Err why))
+  refused-by e why heads books logs keeps checks = record {
+    says = λ calls had. ap (λ o. told (answered o (lines-by w (accepted w calls) call))) (sym (checks calls had));
+    leaves = λ calls had.
+        let stays : accepted w calls ≡ accepted w (call ∷ calls) = ap (λ o. with-call w o call (accepted w calls)) (sym (checks calls had)) in
+        record {
+          head-is = heads ∙ had .head-is ∙ ap head stays;
+          cues-are = books ∙ had .cues-are ∙ ap (book-of w) stays;
+          lines-are = logs ∙ had .lines-are ∙ ap (log-of w) stays;
+        };
+    keeps = keeps;
+  }
 
   pub refused : (why : Refusal) → ((calls : List (Call V)) → Has-had w calls d → refusal w (accepted w calls) call ≡ Some why) → Taken R w d d call told (told (Err why))
   refused why checks = refused-by d why refl refl refl keeps-all checks
@@ -45,15 +47,17 @@ module _ {C F L V W R : Type 0} (w : World V W) (d : Deck C F L V W) (call : Cal
     pub logs : lines (e .log) ≡ log-of w (call ∷ a)
 
   pub taken : (e : Deck C F L V W) (k : ℕ) → ((calls : List (Call V)) → Has-had w calls d → Accepts e k (accepted w calls)) → Keeps d e → Taken R w d e call told (told (Ok k))
-  taken e k known same = record
-      { says = λ calls had.
-          let ok = known calls had in
-          ap (λ n. told (Ok n)) (sym (ok .count)) ∙ ap (λ o. told (answered o (lines-by w (accepted w calls) call))) (sym (ok .passes))
-      ; leaves = λ calls had.
-          let ok = known calls had in
-          let more : call ∷ accepted w calls ≡ accepted w (call ∷ calls) = ap (λ o. with-call w o call (accepted w calls)) (sym (ok .passes)) in
-          record
-          { head-is = ok .heads ∙ ap head more
-          ; cues-are = ok .books ∙ ap (book-of w) more
-          ; lines-are = ok .logs ∙ ap (log-of w) more }
-      ; keeps = same }
+  taken e k known same = record {
+    says = λ calls had.
+        let ok = known calls had in
+        ap (λ n. told (Ok n)) (sym (ok .count)) ∙ ap (λ o. told (answered o (lines-by w (accepted w calls) call))) (sym (ok .passes));
+    leaves = λ calls had.
+        let ok = known calls had in
+        let more : call ∷ accepted w calls ≡ accepted w (call ∷ calls) = ap (λ o. with-call w o call (accepted w calls)) (sym (ok .passes)) in
+        record {
+          head-is = ok .heads ∙ ap head more;
+          cues-are = ok .books ∙ ap (book-of w) more;
+          lines-are = ok .logs ∙ ap (log-of w) more;
+        };
+    keeps = same;
+  }

@@ -27,9 +27,13 @@ use Rattle.deck.specs.declared.state.Deck.{Deck}
 
 module _ {C F L V W : Type 0} (pile : C → Meaning) (number : F → V → Option ℕ) (frames : L → Meaning) (form : L → ℕ → Option W) where
   abbrev pub world-of : Deck C F L V W → World V W
-  world-of d = record
-      { cues = pile (d .pile); number = number (d .form); label = current-at (frames (d .frames)) (form (d .frames))
-      ; places = room (d .book); lines = log-room (d .log) }
+  world-of d = record {
+    cues = pile (d .pile);
+    number = number (d .form);
+    label = current-at (frames (d .frames)) (form (d .frames));
+    places = room (d .book);
+    lines = log-room (d .log);
+  }
 
 module _ {C F L V W : Type 0} where
   abbrev pub Has-had : World V W → List (Call V) → Deck C F L V W → Type 0
@@ -54,9 +58,9 @@ module _ {C F L V W : Type 0} where
     pub heads : after .head ≡ before .head
     pub keeps : Keeps before after
     pub rows : from ≤ to → to ≤ length (cues (before .book))
-      → ((k : ℕ) (d : Cue V) → from ≤ k → k < to → getD (cues (before .book)) k d .position < w .cues .len)
-      → length (lines (before .log)) + (to - from) ≤ w .lines
-      → lines (after .log) ≡ lines (before .log) ++ map (line-of w) (between from to (cues (before .book)))
+        → ((k : ℕ) (d : Cue V) → from ≤ k → k < to → getD (cues (before .book)) k d .position < w .cues .len)
+        → length (lines (before .log)) + (to - from) ≤ w .lines
+        → lines (after .log) ≡ lines (before .log) ++ map (line-of w) (between from to (cues (before .book)))
 
 -- an answer that has no lines to tell
 abbrev pub done : Result ℕ Refusal → Result (Unit {0}) Refusal

@@ -37,7 +37,11 @@ impl<'m, C: Timebase, F: WrittenForm, L: WrittenTimebase> Deck<'m, C, F, L> {
         if position >= self.pile.len() {
             return Err(Refusal::NoPosition);
         }
-        let cue = Cue { position, number, at };
+        let cue = Cue {
+            position,
+            number,
+            at,
+        };
         if self.book.enter(cue) {
             Ok(())
         } else {

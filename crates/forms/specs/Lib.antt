@@ -1,2 +1,5 @@
 pub mod Pairing
 pub mod Count
+pub mod Formats
+pub mod Labels
+pub mod LabelText

@@ -5,6 +5,9 @@ ghost use Rattle.forms.specs.Count.{plain-number, plain-parts};
 use crate::form::WrittenForm;
 use refusal::Refusal;
 
+// Positions lie below 2^36.
+const PLAIN_COUNT: u64 = 68_719_476_736;
+
 #[derive(Clone, Copy, PartialEq, Eq, Debug)]
 pub struct PlainCount;
 
@@ -20,11 +23,11 @@ pub impl WrittenForm for PlainCount as PlainCountForm {
     ghost parts = { λ _. plain-parts };
 
     fn count(&self) -> u64 {
-        68_719_476_736
+        PLAIN_COUNT
     }
 
     fn read(&self, v: u64) -> Result<u64, Refusal> {
-        if v < 68_719_476_736 {
+        if v < PLAIN_COUNT {
             Ok(v)
         } else {
             Err(Refusal::NotWritten)
@@ -32,7 +35,7 @@ pub impl WrittenForm for PlainCount as PlainCountForm {
     }
 
     fn write(&self, n: u64) -> Result<u64, Refusal> {
-        if n < 68_719_476_736 {
+        if n < PLAIN_COUNT {
             Ok(n)
         } else {
             Err(Refusal::NotBelowCount)

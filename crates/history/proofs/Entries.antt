@@ -15,10 +15,10 @@ use Rattle.book.specs.Cues.{earlier, entered, numbered, struck, After-all, Risi
 
 module _ {V : Type 0} where
   -- the order as numbers have it
-  abbrev Sooner : Cue V → Cue V → Type 0
+  abbrev pub Sooner : Cue V → Cue V → Type 0
   Sooner a b = (a .position < b .position) ⊎ ((a .position ≡ b .position) × (a .number < b .number))
 
-  sooner : (a b : Cue V) → earlier a b ≡ true → Sooner a b
+  pub sooner : (a b : Cue V) → earlier a b ≡ true → Sooner a b
   sooner a b t = ⊎-elim
       (λ l. inl (ltb-true _ _ l))
       (λ e. let p = and-parts (eqb (a .position) (b .position)) (ltb (a .number) (b .number)) e in inr (eqb-true _ _ (p .0), ltb-true _ _ (p .1)))
@@ -42,8 +42,8 @@ module _ {V : Type 0} where
       ⊎-elim
       (λ e. inl (let nq = eqb-false _ _ e in ⊎-elim (λ q. absurd (nq q)) (⊎-elim (λ l. omega arith) (λ l. l)) (cases-order (a .position) (b .position))))
       (λ l. let low : b .number ≤ a .number = ltb-false _ _ l in
-          ⊎-elim (λ q. ⊎-elim (λ r. absurd (ne r)) (⊎-elim (λ s. absurd (omega arith)) (λ s. inr (omega arith, s))) (cases-order (a .number) (b .number)))
-          (⊎-elim (λ m. absurd (omega arith)) (λ m. inl m)) (cases-order (a .position) (b .position)))
+      ⊎-elim (λ q. ⊎-elim (λ r. absurd (ne r)) (⊎-elim (λ s. absurd (omega arith)) (λ s. inr (omega arith, s))) (cases-order (a .number) (b .number)))
+      (⊎-elim (λ m. absurd (omega arith)) (λ m. inl m)) (cases-order (a .position) (b .position)))
       (and-cases (eqb (a .position) (b .position)) (ltb (a .number) (b .number)) (p .1))
 
   after-trans : (c x : Cue V) (xs : List (Cue V)) → earlier c x ≡ true → After-all x xs → After-all c xs
@@ -73,7 +73,7 @@ module _ {V : Type 0} where
   lacks n (x ∷ xs) e = let p = kept-none (numbered n x) x (kept-by (numbered n) xs) e in (p .0, lacks n xs (p .1))
 
   rising-step : (c x : Cue V) (xs : List (Cue V)) (b : Bool) → earlier x c ≡ b → numbered (c .number) x ≡ false → Rising (x ∷ xs) → Rising (entered c xs)
-    → Rising (cond b (x ∷ entered c xs) (c ∷ x ∷ xs))
+      → Rising (cond b (x ∷ entered c xs) (c ∷ x ∷ xs))
   rising-step c x xs true e ne r up = (after-entered x c xs e (r .0), up)
   rising-step c x xs false e ne r up =
       let first : earlier c x ≡ true = is-sooner c x (sooner-other x c e (eqb-false _ _ ne)) in

@@ -55,17 +55,18 @@ module _ {V L : Type 0} (w : World V L) (a : List (Call V)) where
   addable n v none =
       let at : ℕ = valueOr (w .number v) 0 in
       let ok = passed-five (out-of-range n) (isSome (stands n a)) (not (isSome (w .number v))) (not (isSome (sample-of w v))) (leb (w .places) (numbers-in a))
-          CueOutOfRange CueAlreadyIn NotWritten NoPosition NoFreePlace none in
+      CueOutOfRange CueAlreadyIn NotWritten NoPosition NoFreePlace none in
       let is : w .number v ≡ Some at = some-of (w .number v) 0 (not-false (isSome (w .number v)) (ok .2)) in
       let put : isSome (okPart (placed (w .cues) at)) ≡ true
-          = sym (ap (λ o. isSome (and-then o (λ p. okPart (placed (w .cues) p)))) is) ∙ not-false (isSome (sample-of w v)) (ok .3) in
-      record
-      { new = none-of (stands n a) (ok .1)
-      ; good = record { few = few-of n (ok .0); valid = is; inside = placed-is w at (ltb at (w .cues .len)) refl put }
-      ; room = leb-false (w .places) (numbers-in a) (ok .4) }
+      = sym (ap (λ o. isSome (and-then o (λ p. okPart (placed (w .cues) p)))) is) ∙ not-false (isSome (sample-of w v)) (ok .3) in
+      record {
+        new = none-of (stands n a) (ok .1);
+        good = record { few = few-of n (ok .0); valid = is; inside = placed-is w at (ltb at (w .cues .len)) refl put };
+        room = leb-false (w .places) (numbers-in a) (ok .4);
+      }
 
   only-add : (n : ℕ) (v : V) → Kept V L w a → stands n a ≡ None → (c : ℕ) (b : Bool) → eqb n c ≡ b
-    → kept-by (numbered c) (entered (cue-of w n v) (book-of w a)) ≡ listOf (mapped (cue-of w c) (cond b (Some v) (stands c a)))
+      → kept-by (numbered c) (entered (cue-of w n v) (book-of w a)) ≡ listOf (mapped (cue-of w c) (cond b (Some v) (stands c a)))
   only-add n v k new c true e =
       let is : n ≡ c = eqb-true _ _ e in
       let none : kept-by (numbered c) (book-of w a) ≡ [] = k .only c ∙ ap (λ m. listOf (mapped (cue-of w c) (stands m a))) (sym is) ∙ ap (λ o. listOf (mapped (cue-of w c) o)) new in
@@ -76,33 +77,35 @@ module _ {V L : Type 0} (w : World V L) (a : List (Call V)) where
   kept-add n v k none =
       let ok = addable n v none in
       let lack : kept-by (numbered n) (book-of w a) ≡ [] = k .only n ∙ ap (λ o. listOf (mapped (cue-of w n) o)) (ok .new) in
-      record
-      { rises = rising-entered (cue-of w n v) (book-of w a) (lacks n (book-of w a) lack) (k .rises)
-      ; only = λ c. only-add n v k (ok .new) c (eqb n c) refl
-      ; good = all-entered (Good V L w) (cue-of w n v) (book-of w a) (ok .good) (k .good)
-      ; ends = k .ends
-      ; fits = k .fits
-      ; long = k .long }
+      record {
+        rises = rising-entered (cue-of w n v) (book-of w a) (lacks n (book-of w a) lack) (k .rises);
+        only = λ c. only-add n v k (ok .new) c (eqb n c) refl;
+        good = all-entered (Good V L w) (cue-of w n v) (book-of w a) (ok .good) (k .good);
+        ends = k .ends;
+        fits = k .fits;
+        long = k .long;
+      }
 
   tail-one : {X : Type 0} (o : Option X) → tail (listOf o) ≡ []
   tail-one None = refl
   tail-one (Some x) = refl
 
   only-strike : (n : ℕ) → Kept V L w a → (c : ℕ) (b : Bool) → eqb n c ≡ b
-    → kept-by (numbered c) (struck n (book-of w a)) ≡ listOf (mapped (cue-of w c) (cond b None (stands c a)))
+      → kept-by (numbered c) (struck n (book-of w a)) ≡ listOf (mapped (cue-of w c) (cond b None (stands c a)))
   only-strike n k c true e =
       let is : n ≡ c = eqb-true _ _ e in
       ap (λ m. kept-by (numbered c) (struck m (book-of w a))) is ∙ struck-same c (book-of w a) ∙ ap tail (k .only c) ∙ tail-one (mapped (cue-of w c) (stands c a))
   only-strike n k c false e = struck-other n c (book-of w a) (λ q. eqb-false _ _ e (sym q)) ∙ k .only c
 
   pub kept-strike : (n : ℕ) → Kept V L w a → Kept V L w (Strike n ∷ a)
-  kept-strike n k = record
-      { rises = rising-struck n (book-of w a) (k .rises)
-      ; only = λ c. only-strike n k c (eqb n c) refl
-      ; good = all-struck (Good V L w) n (book-of w a) (k .good)
-      ; ends = k .ends
-      ; fits = k .fits
-      ; long = k .long }
+  kept-strike n k = record {
+    rises = rising-struck n (book-of w a) (k .rises);
+    only = λ c. only-strike n k c (eqb n c) refl;
+    good = all-struck (Good V L w) n (book-of w a) (k .good);
+    ends = k .ends;
+    fits = k .fits;
+    long = k .long;
+  }
 
   pub kept-seek : (h : ℕ) → Kept V L w a → refusal w a (Seek h) ≡ None → Kept V L w (Seek h ∷ a)
   kept-seek h k none =
@@ -113,12 +116,15 @@ module _ {V L : Type 0} (w : World V L) (a : List (Call V)) where
   kept-play n k none =
       let ok = passed-two (ltb end (head a + n)) (ltb (w .lines - added w a) (crossed w a n)) HeadPastEnd NoFreeLines none in
       let lines : List (Cue V) = kept-by (in-play w (head a) n) (book-of w a) in
-      record
-      { rises = k .rises; only = k .only; good = k .good
-      ; ends = ltb-false end (head a + n) (ok .0)
-      ; fits = within (w .lines) (added w a) (crossed w a n) (k .fits) (ltb-false (w .lines - added w a) (crossed w a n) (ok .1))
-      ; long = length-append (log-of w a) (map (line-of w) lines) ∙ ap (λ m. m + length (map (line-of w) lines)) (k .long)
-        ∙ ap (λ m. added w a + m) (length-map lines (line-of w) ∙ sym (crossed-is w a k n)) }
+      record {
+        rises = k .rises;
+        only = k .only;
+        good = k .good;
+        ends = ltb-false end (head a + n) (ok .0);
+        fits = within (w .lines) (added w a) (crossed w a n) (k .fits) (ltb-false (w .lines - added w a) (crossed w a n) (ok .1));
+        long = length-append (log-of w a) (map (line-of w) lines) ∙ ap (λ m. m + length (map (line-of w) lines)) (k .long)
+            ∙ ap (λ m. added w a + m) (length-map lines (line-of w) ∙ sym (crossed-is w a k n));
+      }
 
   kept-call : (call : Call V) (r : Option Refusal) → refusal w a call ≡ r → Kept V L w a → Kept V L w (with-call w r call a)
   kept-call call (Some e) is k = k

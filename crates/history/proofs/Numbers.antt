@@ -25,7 +25,7 @@ module _ {X : Type 0} where
   kept-swap p false x xs ys = refl
 
   both-step : (p q : X → Bool) (x : X) (xs : List X) (b : Bool) → p x ≡ b → kept-by q (kept-by p xs) ≡ kept-by (λ y. p y && q y) xs
-    → kept-by q (cond b (x ∷ kept-by p xs) (kept-by p xs)) ≡ cond (b && q x) (x ∷ kept-by (λ y. p y && q y) xs) (kept-by (λ y. p y && q y) xs)
+      → kept-by q (cond b (x ∷ kept-by p xs) (kept-by p xs)) ≡ cond (b && q x) (x ∷ kept-by (λ y. p y && q y) xs) (kept-by (λ y. p y && q y) xs)
   both-step p q x xs true e ih = ap (λ ys. cond (q x) (x ∷ ys) ys) ih
   both-step p q x xs false e ih = ih
 
@@ -84,7 +84,7 @@ module _ {V : Type 0} (T : Cue V → Bool) where
   share xs c = length (kept-by T (kept-by (numbered c) xs))
 
   share-step : (x : Cue V) (ys : List (Cue V)) (b t : Bool) → T x ≡ t
-    → length (kept-by T (cond b (x ∷ ys) ys)) ≡ cond b (cond t 1 0) 0 + length (kept-by T ys)
+      → length (kept-by T (cond b (x ∷ ys) ys)) ≡ cond b (cond t 1 0) 0 + length (kept-by T ys)
   share-step x ys false t e = omega arith
   share-step x ys true true e = ap length (cond-true (T x) (x ∷ kept-by T ys) (kept-by T ys) e) ∙ omega arith
   share-step x ys true false e = ap length (cond-false (T x) (x ∷ kept-by T ys) (kept-by T ys) e) ∙ omega arith
@@ -94,7 +94,7 @@ module _ {V : Type 0} (T : Cue V → Bool) where
   shares n [] all = sum-zero n
   shares n (x ∷ xs) all =
       let one = sum-same (share (x ∷ xs)) (λ c. cond (eqb (x .number) c) (cond (T x) 1 0) 0 + share xs c) n
-              (λ c h. share-step x (kept-by (numbered c) xs) (eqb (x .number) c) (T x) refl) in
+      (λ c h. share-step x (kept-by (numbered c) xs) (eqb (x .number) c) (T x) refl) in
       let parts = sum-plus (λ c. cond (eqb (x .number) c) (cond (T x) 1 0) 0) (share xs) n in
       let here = sum-once (x .number) (cond (T x) 1 0) n (all .0) in
       let rest = shares n xs (all .1) in
@@ -111,7 +111,7 @@ module _ {V : Type 0} (T : Cue V → Bool) where
 
   -- where each number has at most the one cue that `at` gives it, counting numbers counts cues
   pub tally-cues : (at : ℕ → Option (Cue V)) (n : ℕ) (xs : List (Cue V)) → ((c : ℕ) → kept-by (numbered c) xs ≡ listOf (at c)) → All (λ x. x .number < n) xs
-    → tally (λ c. holds-of (at c) T) n ≡ length (kept-by T xs)
+      → tally (λ c. holds-of (at c) T) n ≡ length (kept-by T xs)
   tally-cues at n xs only all =
       tally-sum (λ c. holds-of (at c) T) n
       ∙ sum-same (λ c. cond (holds-of (at c) T) 1 0) (share xs) n (λ c h. sym (ap (λ ys. length (kept-by T ys)) (only c) ∙ alone (at c)))

@@ -73,12 +73,12 @@ module _ {V L : Type 0} (w : World V L) (a : List (Call V)) (k : Kept V L w a) (
       ∙ ap (λ o. cond (in-block (head a) n s && holds-of o (λ t. eqb t s)) 1 0) (sym (sample-good w x (found w a k c v is)))
 
   added-lines : lines-with c s (map (line-of w) (kept-by (in-play w (head a) n) (book-of w a)))
-    ≡ cond (in-block (head a) n s && holds-of (stands-on w c a) (λ t. eqb t s)) 1 0
+      ≡ cond (in-block (head a) n s && holds-of (stands-on w c a) (λ t. eqb t s)) 1 0
   added-lines =
       kept-map (line-of w) (λ l. eqb (l .cue) c && eqb (l .sample) s) (kept-by (in-play w (head a) n) (book-of w a))
       ∙ ap length (kept-both (in-play w (head a) n) (λ x. eqb (x .number) c && eqb (sample w x) s) (book-of w a)
-          ∙ kept-same _ _ (λ x. turned (in-play w (head a) n x) (eqb (x .number) c) (eqb (sample w x) s)) (book-of w a)
-          ∙ sym (kept-both (numbered c) here (book-of w a)))
+      ∙ kept-same _ _ (λ x. turned (in-play w (head a) n x) (eqb (x .number) c) (eqb (sample w x) s)) (book-of w a)
+      ∙ sym (kept-both (numbered c) here (book-of w a)))
       ∙ ap (λ xs. length (kept-by here xs)) (k .only c)
       ∙ one-cue (stands c a) refl
 

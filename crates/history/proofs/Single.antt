@@ -14,7 +14,7 @@ use Rattle.book.specs.Cues.{earlier, entered, numbered, struck}
 
 module _ {V : Type 0} (t : Cue V → Bool) where
   other-step : (c x : Cue V) (xs : List (Cue V)) (b : Bool) → t c ≡ false → kept-by t (entered c xs) ≡ kept-by t xs
-    → kept-by t (cond b (x ∷ entered c xs) (c ∷ x ∷ xs)) ≡ kept-by t (x ∷ xs)
+      → kept-by t (cond b (x ∷ entered c xs) (c ∷ x ∷ xs)) ≡ kept-by t (x ∷ xs)
   other-step c x xs true f ih = ap (λ ys. cond (t x) (x ∷ ys) ys) ih
   other-step c x xs false f ih = cond-false (t c) (c ∷ kept-by t (x ∷ xs)) (kept-by t (x ∷ xs)) f
 
@@ -27,7 +27,7 @@ module _ {V : Type 0} (t : Cue V → Bool) where
   none-step x ys false e = (refl, e)
 
   one-step : (c x : Cue V) (xs : List (Cue V)) (b : Bool) → t c ≡ true → t x ≡ false → kept-by t xs ≡ [] → kept-by t (entered c xs) ≡ c ∷ []
-    → kept-by t (cond b (x ∷ entered c xs) (c ∷ x ∷ xs)) ≡ c ∷ []
+      → kept-by t (cond b (x ∷ entered c xs) (c ∷ x ∷ xs)) ≡ c ∷ []
   one-step c x xs true e f none ih = cond-false (t x) (x ∷ kept-by t (entered c xs)) (kept-by t (entered c xs)) f ∙ ih
   one-step c x xs false e f none ih =
       cond-true (t c) (c ∷ kept-by t (x ∷ xs)) (kept-by t (x ∷ xs)) e
@@ -45,7 +45,7 @@ tail (x ∷ xs) = xs
 
 module _ {V : Type 0} (n : ℕ) where
   struck-other-step : (m : ℕ) (x : Cue V) (xs : List (Cue V)) (b : Bool) → eqb (x .number) n ≡ b → (m ≡ n → ⊥) → kept-by (numbered m) (struck n xs) ≡ kept-by (numbered m) xs
-    → kept-by (numbered m) (cond b xs (x ∷ struck n xs)) ≡ kept-by (numbered m) (x ∷ xs)
+      → kept-by (numbered m) (cond b xs (x ∷ struck n xs)) ≡ kept-by (numbered m) (x ∷ xs)
   struck-other-step m x xs true e ne ih =
       let is : x .number ≡ n = eqb-true _ _ e in
       sym (cond-false (eqb (x .number) m) (x ∷ kept-by (numbered m) xs) (kept-by (numbered m) xs) (ne-eqb _ _ (λ q. ne (sym q ∙ is))))
@@ -56,7 +56,7 @@ module _ {V : Type 0} (n : ℕ) where
   struck-other m (x ∷ xs) ne = struck-other-step m x xs (eqb (x .number) n) refl ne (struck-other m xs ne)
 
   struck-same-step : (x : Cue V) (xs : List (Cue V)) (b : Bool) → eqb (x .number) n ≡ b → kept-by (numbered n) (struck n xs) ≡ tail (kept-by (numbered n) xs)
-    → kept-by (numbered n) (cond b xs (x ∷ struck n xs)) ≡ tail (cond b (x ∷ kept-by (numbered n) xs) (kept-by (numbered n) xs))
+      → kept-by (numbered n) (cond b xs (x ∷ struck n xs)) ≡ tail (cond b (x ∷ kept-by (numbered n) xs) (kept-by (numbered n) xs))
   struck-same-step x xs true e ih = refl
   struck-same-step x xs false e ih = cond-false (eqb (x .number) n) (x ∷ kept-by (numbered n) (struck n xs)) (kept-by (numbered n) (struck n xs)) e ∙ ih
 

@@ -39,7 +39,7 @@ pub passed-two : (a b : Bool) (e f : Refusal) → first ((a, e) ∷ (b, f) ∷ [
 passed-two a b e f h = let p = passed a e ((b, f) ∷ []) h in (p .0, passed b f [] (p .1) .0)
 
 pub passed-five : (a b c d e : Bool) (q r s t u : Refusal) → first ((a, q) ∷ (b, r) ∷ (c, s) ∷ (d, t) ∷ (e, u) ∷ []) ≡ None
-  → (a ≡ false) × (b ≡ false) × (c ≡ false) × (d ≡ false) × (e ≡ false)
+    → (a ≡ false) × (b ≡ false) × (c ≡ false) × (d ≡ false) × (e ≡ false)
 passed-five a b c d e q r s t u h =
     let one = passed a q ((b, r) ∷ (c, s) ∷ (d, t) ∷ (e, u) ∷ []) h in
     let two = passed b r ((c, s) ∷ (d, t) ∷ (e, u) ∷ []) (one .1) in

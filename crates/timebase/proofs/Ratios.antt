@@ -23,16 +23,18 @@ ratio-within n d f hn hd last p h =
 
 pub ratio-sound : (n d f : ℕ) → 0 < n → 0 < d → f ≤ 2 ^ 24 → Within n d f → Sound (ratio-meaning n d f)
 ratio-sound n d f hn hd short within =
-    record
-    { short = omega arith
-    ; within = within
-    ; never-falls = λ p q h _. scaled-rises n d p q hn hd h }
+    record {
+      short = omega arith;
+      within = within;
+      never-falls = λ p q h _. scaled-rises n d p q hn hd h;
+    }
 
-pub ratio-least : (n d f s : ℕ) → 0 < n → 0 < d → f ≤ 2 ^ 24 → Within n d f → Least (ratio-meaning n d f) s (min (reached n d (min s (2 ^ 36))) f)
+pub ratio-least : (n d f s : ℕ) → 0 < n → 0 < d → f ≤ 2 ^ 24 → Within n d f →
+    Least (ratio-meaning n d f) s (min (reached n d (min s (2 ^ 36))) f)
 ratio-least n d f s hn hd short within =
     let t = min s (2 ^ 36) in
     let m = ratio-meaning n d f in
     least-capped m (ratio-sound n d f hn hd short within) s _
     (least-from m t (min (reached n d t) f) (omega arith)
     (λ p h. let both = scaled-reached n d t p hn hd in
-        (λ k. both .1 (omega arith), λ k. let e = both .0 k in omega arith)))
+    (λ k. both .1 (omega arith), λ k. let e = both .0 k in omega arith)))

@@ -28,7 +28,8 @@ past n d t x hd =
     let step = suc-mul t d in
     (λ h. let up = iff .0 h in omega arith, λ h. iff .1 (omega arith))
 
-pub scaled-reached : (n d s x : ℕ) → 0 < n → 0 < d → (s ≤ scaled n d x → reached n d s ≤ x) × (reached n d s ≤ x → s ≤ scaled n d x)
+pub scaled-reached : (n d s x : ℕ) → 0 < n → 0 < d →
+    (s ≤ scaled n d x → reached n d s ≤ x) × (reached n d s ≤ x → s ≤ scaled n d x)
 scaled-reached n d zero x hn hd = (λ h. zero-le, λ h. zero-le)
 scaled-reached n d (suc t) x hn hd =
     let iff = div-lt-iff-lt-mul {k = n} {x = t * d} {y = x} hn in

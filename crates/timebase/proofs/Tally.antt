@@ -28,18 +28,19 @@ tally-false test n e =
 pub tally-cut : (test : ℕ → Bool) (k n : ℕ) → Cut test k n → tally test n ≡ k
 tally-cut test k zero c = let h = c .inside in omega arith
 tally-cut test k (suc n) c =
-    elim (cases-lt n k)
-    [ inl h ↦
-        let all : Cut test n n = record { inside = omega arith; passes = λ p l. c .passes p (omega arith); fails = λ p a b. absurd (omega arith) } in
-        let t = tally-true test n (c .passes n h) in
-        let e = tally-cut test n n all in
-        let i = c .inside in
-        omega arith
-    | inr h ↦
-        let less : Cut test k n = record { inside = h; passes = c .passes; fails = λ p a b. c .fails p a (omega arith) } in
-        let t = tally-false test n (c .fails n h (omega arith)) in
-        let e = tally-cut test k n less in
-        omega arith ]
+    elim (cases-lt n k) [
+      | inl h ↦
+          let all : Cut test n n = record { inside = omega arith; passes = λ p l. c .passes p (omega arith); fails = λ p a b. absurd (omega arith) } in
+          let t = tally-true test n (c .passes n h) in
+          let e = tally-cut test n n all in
+          let i = c .inside in
+          omega arith
+      | inr h ↦
+          let less : Cut test k n = record { inside = h; passes = c .passes; fails = λ p a b. c .fails p a (omega arith) } in
+          let t = tally-false test n (c .fails n h (omega arith)) in
+          let e = tally-cut test k n less in
+          omega arith
+    ]
 
 -- once the test fails, it fails
 abbrev pub Falls : (ℕ → Bool) → ℕ → Type 0
@@ -47,15 +48,17 @@ Falls test n = (p q : ℕ) → p ≤ q → q < n → test q ≡ true → test p 
 
 last : (test : ℕ → Bool) (k n : ℕ) → Cut test k n → test n ≡ false → (p : ℕ) → k ≤ p → p < suc n → test p ≡ false
 last test k n c e p a b =
-    elim (cases-lt p n)
-    [ inl l ↦ c .fails p a l
-    | inr l ↦ (let same : p ≡ n = omega arith in rw same e) ]
+    elim (cases-lt p n) [
+      | inl l ↦ c .fails p a l
+      | inr l ↦ (let same : p ≡ n = omega arith in rw same e)
+    ]
 
 cut-more : (test : ℕ → Bool) (k n : ℕ) → Falls test (suc n) → Cut test k n → (j : ℕ) × Cut test j (suc n)
 cut-more test k n falls c =
-    elim (cases-bool (test n))
-    [ inl e ↦ (suc n, record { inside = omega arith; passes = λ p l. falls p n (omega arith) (omega arith) e; fails = λ p a b. absurd (omega arith) })
-    | inr e ↦ (k, record { inside = (let i = c .inside in omega arith); passes = c .passes; fails = λ p a b. last test k n c e p a b }) ]
+    elim (cases-bool (test n)) [
+      | inl e ↦ (suc n, record { inside = omega arith; passes = λ p l. falls p n (omega arith) (omega arith) e; fails = λ p a b. absurd (omega arith) })
+      | inr e ↦ (k, record { inside = (let i = c .inside in omega arith); passes = c .passes; fails = λ p a b. last test k n c e p a b })
+    ]
 
 pub cut-of : (test : ℕ → Bool) (n : ℕ) → Falls test n → (k : ℕ) × Cut test k n
 cut-of test zero falls = (0, record { inside = omega arith; passes = λ p l. absurd (omega arith); fails = λ p a b. absurd (omega arith) })

@@ -1,8 +1,7 @@
 // A fraction to multiply by, with one rounding, upward.
 ghost use mathlib.Core.Path.{_≡_};
-ghost use mathlib.Core.Bool.{true, false};
 ghost use Prim.Native.Nat.{_^_, _≤_, _<_, min};
-ghost use Rattle.std.specs.Options.{Cases};
+ghost use Rattle.std.specs.Options.{Cases, isSome};
 ghost use Rattle.timebase.specs.Scale.{scaled, reached, in-range};
 
 // The most that a fraction's two numbers can be: times a sample it still fits 64 bits.
@@ -24,7 +23,8 @@ pub struct Fraction {
 impl Fraction {
     // None where a number is 0, over `most` or over 2^27.
     pub fn new(n: u64, d: u64, most: u64) -> Option<Self>
-        ensures made { λ r. ⌜ Cases r (in-range n d (min most (2 ^ 27)) ≡ false) (λ f. (in-range n d (min most (2 ^ 27)) ≡ true) × (f .n ≡ n) × (f .d ≡ d)) ⌝ }
+        ensures cases { λ r. ⌜ isSome r ≡ in-range n d (min most (2 ^ 27)) ⌝ }
+        ensures made { λ r. ⌜ Cases r (Unit {0}) (λ f. (f .n ≡ n) × (f .d ≡ d)) ⌝ }
     {
         let most = most.min(MOST);
         if n == 0 || n > most || d == 0 || d > most {

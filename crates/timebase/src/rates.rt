@@ -21,13 +21,37 @@ pub struct RateRow {
 }
 
 const FRAME_RATES: [RateRow; 6] = [
-    RateRow { frames: 24_000, seconds: 1001, labels: 24 },
-    RateRow { frames: 24, seconds: 1, labels: 24 },
-    RateRow { frames: 25, seconds: 1, labels: 25 },
-    RateRow { frames: 30_000, seconds: 1001, labels: 30 },
-    RateRow { frames: 30, seconds: 1, labels: 30 },
+    RateRow {
+        frames: 24_000,
+        seconds: 1001,
+        labels: 24,
+    },
+    RateRow {
+        frames: 24,
+        seconds: 1,
+        labels: 24,
+    },
+    RateRow {
+        frames: 25,
+        seconds: 1,
+        labels: 25,
+    },
+    RateRow {
+        frames: 30_000,
+        seconds: 1001,
+        labels: 30,
+    },
+    RateRow {
+        frames: 30,
+        seconds: 1,
+        labels: 30,
+    },
     // fields: two make a frame, and only frames carry labels
-    RateRow { frames: 60_000, seconds: 1001, labels: 0 },
+    RateRow {
+        frames: 60_000,
+        seconds: 1001,
+        labels: 0,
+    },
 ];
 
 impl FrameRate {

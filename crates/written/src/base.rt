@@ -2,7 +2,7 @@
 ghost use mathlib.Core.Path.{_≡_};
 ghost use Prim.Native.Nat.{ℕ};
 ghost use Rattle.std.specs.declared.option.Option.{Option};
-ghost use Rattle.written.specs.Current.{current-at, shown};
+ghost use Rattle.written.specs.Current.{current-at, shown, standing};
 use forms::form::WrittenForm;
 use refusal::Refusal;
 use timebase::base::LAST_SAMPLE;
@@ -56,16 +56,24 @@ pub impl<T: Timebase, F: WrittenForm> WrittenTimebase for Written<T, F> as Writt
     ghost form = { λ t. shown (F·WrittenForm .count (t .form)) (F·WrittenForm .value (t .form)) };
 
     fn current(&self, s: u64) -> Option<F::Value> {
-        if s > LAST_SAMPLE {
-            return None;
-        }
-        let next = self.pile.locate(s + 1);
-        if next == 0 || next == self.pile.len() {
-            return None;
-        }
-        match self.form.write(next - 1) {
+        let p = standing_at(&self.pile, s)?;
+        match self.form.write(p) {
             Ok(v) => Some(v),
             Err(_) => None,
         }
     }
+}
+
+// The position current at a sample.
+fn standing_at<T: Timebase>(pile: &T, s: u64) -> Option<u64>
+    ensures { λ r. ⌜ r ≡ standing (T·Timebase .meaning (now (pile .entry))) s ⌝ }
+{
+    if s > LAST_SAMPLE {
+        return None;
+    }
+    let next = pile.locate(s + 1);
+    if next == 0 || next == pile.len() {
+        return None;
+    }
+    Some(next - 1)
 }

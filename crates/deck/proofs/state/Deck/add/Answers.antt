@@ -66,13 +66,14 @@ returns-then-enter g c =
     let cue : record { position = p; number = n; at = v } ≡ cue-of w n v = ap (λ o. record { position = valueOr o 0; number = n; at = v }) (sym is) in
     taken w d (Add n v) done _ 0
     (λ calls had.
-        let a = accepted w calls in
-        record
-        { passes = add-passes w a (kept-all w calls) n v p is range (sym (not-in ∙ ap (has n) (had .cues-are))) inside (subst (λ cs. length cs < room (d .book)) (had .cues-are) free)
-        ; count = refl
-        ; heads = had .head-is
-        ; books = c .if-enter .ensures tt .after ∙ ap (λ x. entered x (cues (d .book))) cue ∙ ap (entered (cue-of w n v)) (had .cues-are)
-        ; logs = had .lines-are })
+    let a = accepted w calls in
+    record {
+      passes = add-passes w a (kept-all w calls) n v p is range (sym (not-in ∙ ap (has n) (had .cues-are))) inside (subst (λ cs. length cs < room (d .book)) (had .cues-are) free);
+      count = refl;
+      heads = had .head-is;
+      books = c .if-enter .ensures tt .after ∙ ap (λ x. entered x (cues (d .book))) cue ∙ ap (entered (cue-of w n v)) (had .cues-are);
+      logs = had .lines-are;
+    })
     (record { piles = refl; forms = refl; frames = refl; places = c .if-enter .ensures tt .room; lines = refl })
 
 pub returns-else-enter : need.returns-else-enter
@@ -90,5 +91,5 @@ returns-else-enter g c =
     refused-by w d (Add n v) done _ NoFreePlace refl (c .if-enter .ensures tt .after) refl
     (record { piles = refl; forms = refl; frames = refl; places = c .if-enter .ensures tt .room; lines = refl })
     (λ calls had.
-        add-full w (accepted w calls) (kept-all w calls) n v p is range (sym (not-in ∙ ap (has n) (had .cues-are))) inside
-        (subst (λ cs. room (d .book) ≤ length cs) (had .cues-are) full))
+    add-full w (accepted w calls) (kept-all w calls) n v p is range (sym (not-in ∙ ap (has n) (had .cues-are))) inside
+    (subst (λ cs. room (d .book) ≤ length cs) (had .cues-are) full))

@@ -21,12 +21,13 @@ returns-then-strike g c =
     let in-book : true ≡ has n (cues (d .book)) = c .if-strike .ensures tt .value in
     taken w d (Strike n) done _ 0
     (λ calls had.
-        record
-        { passes = strike-passes w (accepted w calls) (kept-all w calls) n range (sym (in-book ∙ ap (has n) (had .cues-are)))
-        ; count = refl
-        ; heads = had .head-is
-        ; books = c .if-strike .ensures tt .after ∙ ap (struck n) (had .cues-are)
-        ; logs = had .lines-are })
+    record {
+      passes = strike-passes w (accepted w calls) (kept-all w calls) n range (sym (in-book ∙ ap (has n) (had .cues-are)));
+      count = refl;
+      heads = had .head-is;
+      books = c .if-strike .ensures tt .after ∙ ap (struck n) (had .cues-are);
+      logs = had .lines-are;
+    })
     (record { piles = refl; forms = refl; frames = refl; places = c .if-strike .ensures tt .room; lines = refl })
 
 pub returns-else-strike : need.returns-else-strike

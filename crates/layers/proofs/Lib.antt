@@ -1,0 +1,5 @@
+pub mod Changes
+pub mod Samples
+pub mod Positions
+pub mod Pairs
+pub mod Piles
