@@ -11,9 +11,8 @@ use borrow.Author.Count.{below-more}
 use lib.ListN.{length, getD, set}
 use Rattle.std.proofs.shelf.Lists.{getD-set-same, getD-set-other}
 use Rattle.meter.specs.Rules.{bar-of, kept}
-use Rattle.meter.specs.BarLines.{bars-before}
+use Rattle.meter.specs.BarLines.{no-row, bars-before}
 use Rattle.meter.specs.declared.row.MeterRow.{MeterRow}
-use Rattle.meter.proofs.Walk.{no-row}
 use Rattle.meter.proofs.Whole.{Placed, placed-at, Linked, linked-at}
 
 abbrev pub Counted : ℕ → List MeterRow → List ℕ → ℕ → Type 0
@@ -23,17 +22,22 @@ Counted d rows before n = (k : ℕ) → k < n → getD before k 0 ≡ bars-befor
 abbrev next-count : List MeterRow → List ℕ → ℕ → ℕ → ℕ
 next-count rows before i b = getD before i 0 + (getD rows (i + 1) no-row .tick - getD rows i no-row .tick) / b
 
-pub next-right : (d : ℕ) (rows : List MeterRow) (before : List ℕ) (i b : ℕ) → kept d rows ≡ true → i + 1 < length rows → b ≡ bar-of d (getD rows i no-row) → Counted d rows before (i + 1) → next-count rows before i b ≡ bars-before d rows (i + 1)
+pub next-right : (d : ℕ) (rows : List MeterRow) (before : List ℕ) (i b : ℕ) → kept d rows ≡ true → i + 1 < length rows →
+    b ≡ bar-of d (getD rows i no-row) → Counted d rows before (i + 1) →
+    next-count rows before i b ≡ bars-before d rows (i + 1)
 next-right d rows before i b k l e counted =
     let x : ℕ = getD rows (i + 1) no-row .tick - getD rows i no-row .tick in
     ap (λ n. n + x / b) (counted i (omega arith)) ∙ ap (λ m. bars-before d rows i + x / m) e ∙ sym (linked-at d rows i k l .sum)
 
-pub next-fits : (d : ℕ) (rows : List MeterRow) (before : List ℕ) (i b : ℕ) → kept d rows ≡ true → i + 1 < length rows → b ≡ bar-of d (getD rows i no-row) → Counted d rows before (i + 1) → next-count rows before i b ≤ 1073741823
+pub next-fits : (d : ℕ) (rows : List MeterRow) (before : List ℕ) (i b : ℕ) → kept d rows ≡ true → i + 1 < length rows →
+    b ≡ bar-of d (getD rows i no-row) → Counted d rows before (i + 1) → next-count rows before i b ≤ 1073741823
 next-fits d rows before i b k l e counted =
     let p : Placed d rows (i + 1) = placed-at d rows (i + 1) k l in
     omega (arith, next-right d rows before i b k l e counted, p .bars, p .range .early)
 
-pub counted-on : (d : ℕ) (rows : List MeterRow) (before : List ℕ) (i b : ℕ) → kept d rows ≡ true → i + 1 < length rows → b ≡ bar-of d (getD rows i no-row) → length before ≡ 64 → Counted d rows before (i + 1) → Counted d rows (set before (i + 1) (next-count rows before i b)) (i + 1 + 1)
+pub counted-on : (d : ℕ) (rows : List MeterRow) (before : List ℕ) (i b : ℕ) → kept d rows ≡ true → i + 1 < length rows →
+    b ≡ bar-of d (getD rows i no-row) → length before ≡ 64 → Counted d rows before (i + 1) →
+    Counted d rows (set before (i + 1) (next-count rows before i b)) (i + 1 + 1)
 counted-on d rows before i b k l e n counted =
     let p : Placed d rows i = placed-at d rows i k (omega arith) in
     let v : ℕ = next-count rows before i b in

@@ -9,9 +9,8 @@ use native.Mathlib.Numerals.{add-one}
 use lib.ListN.{length, getD}
 use Rattle.std.proofs.shelf.Tests.{false≢true}
 use Rattle.meter.specs.Rules.{bar-of, kept}
-use Rattle.meter.specs.BarLines.{bar-start, bars-before, row-at, First-at}
+use Rattle.meter.specs.BarLines.{no-row, bar-start, bars-before, row-at, First-at}
 use Rattle.meter.specs.declared.row.MeterRow.{MeterRow}
-use Rattle.meter.proofs.Walk.{no-row}
 use Rattle.meter.proofs.Rising.{starts, rises}
 use Rattle.meter.proofs.Lookup.{bar-at, reach-at, Fewest}
 use Rattle.meter.proofs.Current.{follows, current-at}
@@ -35,39 +34,55 @@ lines-start d (r ∷ rest) k =
     let w : Lawful d r rest = lawful d r rest k in
     starts d r rest (w .low) (w .all) ∙ w .first
 
-pub lines-rise : (d : ℕ) (rows : List MeterRow) (p : ℕ) → kept d rows ≡ true → bar-start d rows p < bar-start d rows (p + 1)
+pub lines-rise : (d : ℕ) (rows : List MeterRow) (p : ℕ) → kept d rows ≡ true →
+    bar-start d rows p < bar-start d rows (p + 1)
 lines-rise d [] p k = absurd (false≢true k)
 lines-rise d (r ∷ rest) p k =
     let w : Lawful d r rest = lawful d r rest k in
     rises d r rest p (w .low) (w .all)
 
-bar-suc : (d : ℕ) (rows : List MeterRow) (i p : ℕ) → i < length rows → bars-before d rows i ≤ p → (suc i < length rows → p < bars-before d rows (suc i)) → bar-start d rows p ≡ getD rows i no-row .tick + (p - bars-before d rows i) * bar-of d (getD rows i no-row)
+bar-suc : (d : ℕ) (rows : List MeterRow) (i p : ℕ) → i < length rows → bars-before d rows i ≤ p → (suc i < length rows →
+    p < bars-before d rows (suc i)) →
+    bar-start d rows p ≡ getD rows i no-row .tick + (p - bars-before d rows i) * bar-of d (getD rows i no-row)
 bar-suc d [] i p l a b = absurd (omega arith)
 bar-suc d (r ∷ rest) i p l a b = bar-at d r rest i p l a b
 
-pub bar-found : (d : ℕ) (rows : List MeterRow) (i p : ℕ) → i < length rows → bars-before d rows i ≤ p → (i + 1 < length rows → p < bars-before d rows (i + 1)) → bar-start d rows p ≡ getD rows i no-row .tick + (p - bars-before d rows i) * bar-of d (getD rows i no-row)
+pub bar-found : (d : ℕ) (rows : List MeterRow) (i p : ℕ) → i < length rows → bars-before d rows i ≤ p →
+    (i + 1 < length rows → p < bars-before d rows (i + 1)) →
+    bar-start d rows p ≡ getD rows i no-row .tick + (p - bars-before d rows i) * bar-of d (getD rows i no-row)
 bar-found d rows i p l a b = bar-suc d rows i p l a (λ h. rw add-one at (b (omega arith)))
 
-tick-suc : (d : ℕ) (rows : List MeterRow) (i t c : ℕ) → kept d rows ≡ true → i < length rows → getD rows i no-row .tick ≤ t → (suc i < length rows → t < getD rows (suc i) no-row .tick) → Fewest (t - getD rows i no-row .tick) (bar-of d (getD rows i no-row)) c → First-at (bar-start d rows) t (bars-before d rows i + c)
+tick-suc : (d : ℕ) (rows : List MeterRow) (i t c : ℕ) → kept d rows ≡ true → i < length rows →
+    getD rows i no-row .tick ≤ t → (suc i < length rows → t < getD rows (suc i) no-row .tick) →
+    Fewest (t - getD rows i no-row .tick) (bar-of d (getD rows i no-row)) c →
+    First-at (bar-start d rows) t (bars-before d rows i + c)
 tick-suc d [] i t c k l a b w = absurd (omega arith)
 tick-suc d (r ∷ rest) i t c k l a b w =
     let law : Lawful d r rest = lawful d r rest k in
     reach-at d r rest i t c (law .low) (law .all) l a b w
 
-pub tick-found : (d : ℕ) (rows : List MeterRow) (i t c : ℕ) → kept d rows ≡ true → i < length rows → getD rows i no-row .tick ≤ t → (i + 1 < length rows → t < getD rows (i + 1) no-row .tick) → Fewest (t - getD rows i no-row .tick) (bar-of d (getD rows i no-row)) c → First-at (bar-start d rows) t (bars-before d rows i + c)
+pub tick-found : (d : ℕ) (rows : List MeterRow) (i t c : ℕ) → kept d rows ≡ true → i < length rows →
+    getD rows i no-row .tick ≤ t → (i + 1 < length rows → t < getD rows (i + 1) no-row .tick) →
+    Fewest (t - getD rows i no-row .tick) (bar-of d (getD rows i no-row)) c →
+    First-at (bar-start d rows) t (bars-before d rows i + c)
 tick-found d rows i t c k l a b w = tick-suc d rows i t c k l a (λ h. rw add-one at (b (omega arith))) w
 
-pub lines-follow : (d : ℕ) (rows : List MeterRow) (p : ℕ) → kept d rows ≡ true → bar-start d rows (p + 1) ≡ bar-start d rows p + bar-of d (row-at rows (bar-start d rows p))
+pub lines-follow : (d : ℕ) (rows : List MeterRow) (p : ℕ) → kept d rows ≡ true →
+    bar-start d rows (p + 1) ≡ bar-start d rows p + bar-of d (row-at rows (bar-start d rows p))
 lines-follow d [] p k = absurd (false≢true k)
 lines-follow d (r ∷ rest) p k =
     let w : Lawful d r rest = lawful d r rest k in
     follows d r rest p (w .low) (w .all)
 
-row-suc : (d : ℕ) (rows : List MeterRow) (i t : ℕ) → kept d rows ≡ true → i < length rows → getD rows i no-row .tick ≤ t → (suc i < length rows → t < getD rows (suc i) no-row .tick) → row-at rows t ≡ getD rows i no-row
+row-suc : (d : ℕ) (rows : List MeterRow) (i t : ℕ) → kept d rows ≡ true → i < length rows →
+    getD rows i no-row .tick ≤ t → (suc i < length rows → t < getD rows (suc i) no-row .tick) →
+    row-at rows t ≡ getD rows i no-row
 row-suc d [] i t k l a b = absurd (omega arith)
 row-suc d (r ∷ rest) i t k l a b =
     let w : Lawful d r rest = lawful d r rest k in
     current-at d r rest i t (w .low) (w .all) l a b
 
-pub row-found : (d : ℕ) (rows : List MeterRow) (i t : ℕ) → kept d rows ≡ true → i < length rows → getD rows i no-row .tick ≤ t → (i + 1 < length rows → t < getD rows (i + 1) no-row .tick) → row-at rows t ≡ getD rows i no-row
+pub row-found : (d : ℕ) (rows : List MeterRow) (i t : ℕ) → kept d rows ≡ true → i < length rows →
+    getD rows i no-row .tick ≤ t → (i + 1 < length rows → t < getD rows (i + 1) no-row .tick) →
+    row-at rows t ≡ getD rows i no-row
 row-found d rows i t k l a b = row-suc d rows i t k l a (λ h. rw add-one at (b (omega arith)))

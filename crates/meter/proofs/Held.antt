@@ -8,11 +8,11 @@ use native.Mathlib.Omega.{arith}
 use lib.ListN.{length, getD, take}
 use Rattle.std.proofs.shelf.Lists.{getD-take}
 use Rattle.meter.specs.Rules.{bar-of, kept}
-use Rattle.meter.specs.BarLines.{bar-start, bars-before, row-at, First-at}
-use Rattle.meter.specs.Tables.{rows-of, bar-tick, Bar-in, Tick-in}
+use Rattle.meter.specs.BarLines.{no-row, bar-start, bars-before, row-at, First-at}
+use Rattle.meter.specs.Tables.{rows-of, bar-tick}
+use Rattle.meter.specs.Lies.{Bar-in, Tick-in}
 use Rattle.meter.specs.declared.row.MeterRow.{MeterRow}
 use Rattle.meter.specs.declared.table.MeterTable.{MeterTable}
-use Rattle.meter.proofs.Walk.{no-row}
 use Rattle.meter.proofs.Lookup.{Fewest}
 use Rattle.meter.proofs.Whole.{Placed, placed-at}
 use Rattle.meter.proofs.Found.{some-rows, no-bars-first, first-at-0, bar-found, tick-found, row-found}
@@ -53,7 +53,8 @@ row-facts m i h =
       bars = subst (λ (r : MeterRow). getD (m .before) i 0 ≤ r .tick) e (omega (arith, p .bars, m .counted i h));
     }
 
-pub bar-held : (m : MeterTable) (i p : ℕ) → Bar-in m p i → bar-tick m p ≡ getD (m .rows) i no-row .tick + (p - getD (m .before) i 0) * bar-of (m .division) (getD (m .rows) i no-row)
+pub bar-held : (m : MeterTable) (i p : ℕ) → Bar-in m p i →
+    bar-tick m p ≡ getD (m .rows) i no-row .tick + (p - getD (m .before) i 0) * bar-of (m .division) (getD (m .rows) i no-row)
 bar-held m i p b =
     let d : ℕ = m .division in
     let l : i < length (rows-of m) = omega (arith, m .held, b .there) in
@@ -64,7 +65,9 @@ bar-held m i p b =
     ∙ ap (λ (r : MeterRow). r .tick + (p - bars-before d (rows-of m) i) * bar-of d r) (row-held m i (b .there))
     ∙ ap (λ x. getD (m .rows) i no-row .tick + (p - x) * bar-of d (getD (m .rows) i no-row)) (sym n)
 
-pub tick-held : (m : MeterTable) (i t c : ℕ) → Tick-in m t i → Fewest (t - getD (m .rows) i no-row .tick) (bar-of (m .division) (getD (m .rows) i no-row)) c → First-at (bar-tick m) t (getD (m .before) i 0 + c)
+pub tick-held : (m : MeterTable) (i t c : ℕ) → Tick-in m t i →
+    Fewest (t - getD (m .rows) i no-row .tick) (bar-of (m .division) (getD (m .rows) i no-row)) c →
+    First-at (bar-tick m) t (getD (m .before) i 0 + c)
 tick-held m i t c b w =
     let d : ℕ = m .division in
     let l : i < length (rows-of m) = omega (arith, m .held, b .there) in
@@ -78,7 +81,8 @@ tick-held m i t c b w =
     (tick-found d (rows-of m) i t c (m .lawful) l (omega (arith, tick-at i (b .there), b .begun)) next w′)
 
 -- the row at which a halving by ticks ends
-pub tick-in : (m : MeterTable) (i t : ℕ) → i < m .len → getD (m .rows) i no-row .tick ≤ t → (i + 1 < m .len → t < getD (m .rows) (i + 1) no-row .tick) → Tick-in m t i
+pub tick-in : (m : MeterTable) (i t : ℕ) → i < m .len → getD (m .rows) i no-row .tick ≤ t → (i + 1 < m .len →
+    t < getD (m .rows) (i + 1) no-row .tick) → Tick-in m t i
 tick-in m i t there begun after =
     let tick-at : (j : ℕ) → j < m .len → getD (rows-of m) j no-row .tick ≡ getD (m .rows) j no-row .tick =
     λ j h. ap (λ (r : MeterRow). r .tick) (row-held m j h) in

@@ -11,16 +11,17 @@ use lib.ListN.{length, getD}
 use Rattle.std.proofs.shelf.Bits.{div-add-mod', mod-below}
 use Rattle.std.proofs.shelf.Tests.{cases-lt}
 use Rattle.meter.specs.Rules.{bar-of, row-kept, all-kept}
-use Rattle.meter.specs.BarLines.{gap-of, bar-from, bars-from, First-at}
+use Rattle.meter.specs.BarLines.{no-row, gap-of, bar-from, bars-from, First-at}
 use Rattle.meter.specs.declared.row.MeterRow.{MeterRow}
 use Rattle.meter.proofs.Ranges.{bar-pos}
-use Rattle.meter.proofs.Walk.{no-row}
 use Rattle.meter.proofs.Stretch.{Link, Parts, parts, inside, past}
 use Rattle.meter.proofs.Rising.{starts}
 use Rattle.meter.proofs.Places.{bars-le}
 
 -- bar p lies in row i: it begins so many bars after the row's tick
-pub bar-at : (d : ℕ) (r : MeterRow) (rest : List MeterRow) (i p : ℕ) → i < length (r ∷ rest) → bars-from d r rest i ≤ p → (suc i < length (r ∷ rest) → p < bars-from d r rest (suc i)) → bar-from d r rest p ≡ getD (r ∷ rest) i no-row .tick + (p - bars-from d r rest i) * bar-of d (getD (r ∷ rest) i no-row)
+pub bar-at : (d : ℕ) (r : MeterRow) (rest : List MeterRow) (i p : ℕ) → i < length (r ∷ rest) →
+    bars-from d r rest i ≤ p → (suc i < length (r ∷ rest) → p < bars-from d r rest (suc i)) →
+    bar-from d r rest p ≡ getD (r ∷ rest) i no-row .tick + (p - bars-from d r rest i) * bar-of d (getD (r ∷ rest) i no-row)
 bar-at d r [] zero p l a b = ap (λ x. r .tick + x * bar-of d r) (omega arith)
 bar-at d r (s ∷ rest) zero p l a b =
     inside d r s rest p (omega (arith, b (omega arith))) ∙ ap (λ x. r .tick + x * bar-of d r) (omega arith)
@@ -59,7 +60,11 @@ fewest-le x b c h w =
     elim (cases-lt x c) [ inl more ↦ omega (arith, w .fewer x more, mul-le-mul-left x h) | inr le ↦ le ]
 
 -- tick t lies in row i: the first bar at or after it is so many bars after the row's first
-pub reach-at : (d : ℕ) (r : MeterRow) (rest : List MeterRow) (i t c : ℕ) → 1 ≤ d → all-kept d r rest ≡ true → i < length (r ∷ rest) → getD (r ∷ rest) i no-row .tick ≤ t → (suc i < length (r ∷ rest) → t < getD (r ∷ rest) (suc i) no-row .tick) → Fewest (t - getD (r ∷ rest) i no-row .tick) (bar-of d (getD (r ∷ rest) i no-row)) c → First-at (bar-from d r rest) t (bars-from d r rest i + c)
+pub reach-at : (d : ℕ) (r : MeterRow) (rest : List MeterRow) (i t c : ℕ) → 1 ≤ d → all-kept d r rest ≡ true →
+    i < length (r ∷ rest) → getD (r ∷ rest) i no-row .tick ≤ t → (suc i < length (r ∷ rest) →
+    t < getD (r ∷ rest) (suc i) no-row .tick) →
+    Fewest (t - getD (r ∷ rest) i no-row .tick) (bar-of d (getD (r ∷ rest) i no-row)) c →
+    First-at (bar-from d r rest) t (bars-from d r rest i + c)
 reach-at d r [] zero t c h k l a b w =
     subst (First-at (bar-from d r []) t) (sym (zero-add c)) record {
       reaches = omega (arith, w .enough);

@@ -15,13 +15,15 @@ use Rattle.meter.specs.declared.row.MeterRow.{MeterRow}
 use Rattle.meter.proofs.Ranges.{bar-pos}
 use Rattle.meter.proofs.Stretch.{Link, Parts, parts, inside, past}
 
-pub starts : (d : ℕ) (r : MeterRow) (rest : List MeterRow) → 1 ≤ d → all-kept d r rest ≡ true → bar-from d r rest 0 ≡ r .tick
+pub starts : (d : ℕ) (r : MeterRow) (rest : List MeterRow) → 1 ≤ d → all-kept d r rest ≡ true →
+    bar-from d r rest 0 ≡ r .tick
 starts d r [] h k = omega arith
 starts d r (s ∷ rest) h k =
     let j : Link d r s = parts d r s rest h k .joint in
     inside d r s rest 0 (j .some) ∙ omega arith
 
-pub rises : (d : ℕ) (r : MeterRow) (rest : List MeterRow) (p : ℕ) → 1 ≤ d → all-kept d r rest ≡ true → bar-from d r rest p < bar-from d r rest (p + 1)
+pub rises : (d : ℕ) (r : MeterRow) (rest : List MeterRow) (p : ℕ) → 1 ≤ d → all-kept d r rest ≡ true →
+    bar-from d r rest p < bar-from d r rest (p + 1)
 rises d r [] p h k = omega (arith, bar-pos d r h k, add-mul p 1 (bar-of d r))
 rises d r (s ∷ rest) p h k =
     let ks : Parts d r s rest = parts d r s rest h k in

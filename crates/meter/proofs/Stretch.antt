@@ -49,8 +49,10 @@ parts d r s rest h k =
     let a = and-parts (row-kept d r) (next-kept d r s) (ab .0) in
     record { row = a .0; joint = link d r s h (a .0) (a .1); others = ab .1 }
 
-pub inside : (d : ℕ) (r s : MeterRow) (rest : List MeterRow) (p : ℕ) → p < gap-of d r s → bar-from d r (s ∷ rest) p ≡ r .tick + p * bar-of d r
+pub inside : (d : ℕ) (r s : MeterRow) (rest : List MeterRow) (p : ℕ) → p < gap-of d r s →
+    bar-from d r (s ∷ rest) p ≡ r .tick + p * bar-of d r
 inside d r s rest p h = sym (cond-below p (gap-of d r s) (r .tick + p * bar-of d r) (bar-from d s rest (p - gap-of d r s)) h)
 
-pub past : (d : ℕ) (r s : MeterRow) (rest : List MeterRow) (p : ℕ) → gap-of d r s ≤ p → bar-from d r (s ∷ rest) p ≡ bar-from d s rest (p - gap-of d r s)
+pub past : (d : ℕ) (r s : MeterRow) (rest : List MeterRow) (p : ℕ) → gap-of d r s ≤ p →
+    bar-from d r (s ∷ rest) p ≡ bar-from d s rest (p - gap-of d r s)
 past d r s rest p h = cond-false _ _ _ (le-ltb p (gap-of d r s) h)

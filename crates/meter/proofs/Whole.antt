@@ -11,10 +11,9 @@ use lib.ListN.{length, getD}
 use Rattle.std.proofs.shelf.Tests.{and-parts}
 use Rattle.std.proofs.shelf.Ways.{tells}
 use Rattle.meter.specs.Rules.{bar-of, row-kept, all-kept, kept}
-use Rattle.meter.specs.BarLines.{gap-of, bar-start, bars-before, First-at}
+use Rattle.meter.specs.BarLines.{no-row, gap-of, bar-start, bars-before, First-at}
 use Rattle.meter.specs.declared.row.MeterRow.{MeterRow}
 use Rattle.meter.proofs.Ranges.{In-range, in-range, bar-pos, bar-below}
-use Rattle.meter.proofs.Walk.{no-row}
 use Rattle.meter.proofs.Stretch.{Link}
 use Rattle.meter.proofs.Rising.{starts, rises}
 use Rattle.meter.proofs.Places.{row-at, link-at, bars-step, bars-le}
@@ -28,7 +27,8 @@ pub record Lawful (d : ℕ) (r : MeterRow) (rest : List MeterRow) : Type 0 where
   pub first : r .tick ≡ 0
   pub all : all-kept d r rest ≡ true
 
-numbers : (d n t : ℕ) → (leb 1 d && leb d 32767 && leb n 64 && eqb t 0) ≡ true → (1 ≤ d) × (d ≤ 32767) × (n ≤ 64) × (t ≡ 0)
+numbers : (d n t : ℕ) → (leb 1 d && leb d 32767 && leb n 64 && eqb t 0) ≡ true →
+    (1 ≤ d) × (d ≤ 32767) × (n ≤ 64) × (t ≡ 0)
 numbers d n t h = (grind (arith, tells), grind (arith, tells), grind (arith, tells), grind (arith, tells))
 
 pub lawful : (d : ℕ) (r : MeterRow) (rest : List MeterRow) → kept d (r ∷ rest) ≡ true → Lawful d r rest
@@ -68,7 +68,8 @@ pub record Linked (d : ℕ) (rows : List MeterRow) (i : ℕ) : Type 0 where
   pub later : getD rows i no-row .tick < getD rows (i + 1) no-row .tick
   pub sum : bars-before d rows (i + 1) ≡ bars-before d rows i + gap-of d (getD rows i no-row) (getD rows (i + 1) no-row)
 
-linked-suc : (d : ℕ) (rows : List MeterRow) (i : ℕ) → kept d rows ≡ true → suc i < length rows → (getD rows i no-row .tick < getD rows (suc i) no-row .tick) × (bars-before d rows (suc i) ≡ bars-before d rows i + gap-of d (getD rows i no-row) (getD rows (suc i) no-row))
+linked-suc : (d : ℕ) (rows : List MeterRow) (i : ℕ) → kept d rows ≡ true → suc i < length rows →
+    (getD rows i no-row .tick < getD rows (suc i) no-row .tick) × (bars-before d rows (suc i) ≡ bars-before d rows i + gap-of d (getD rows i no-row) (getD rows (suc i) no-row))
 linked-suc d [] i k l = absurd (omega arith)
 linked-suc d (r ∷ rest) i k l =
     let w : Lawful d r rest = lawful d r rest k in

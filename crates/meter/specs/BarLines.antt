@@ -1,4 +1,5 @@
 -- Where bars begin, by the rows of a meter table.
+--   no-row       stands where there is no row; no table has one
 --   gap-of       the bars of a row before the next row
 --   bar-from     the tick at which bar p begins, counted from 0 at a row, by that row and those after it
 --   bar-start    the same by a whole table: the tick at which bar p + 1 of the show begins
@@ -17,12 +18,18 @@ use Rattle.timebase.specs.Meaning.{tally}
 use Rattle.meter.specs.Rules.{bar-of}
 use Rattle.meter.specs.declared.row.MeterRow.{MeterRow}
 
+abbrev pub no-row : MeterRow
+no-row = record { tick = 0; nn = 0; dd = 0 }
+
 abbrev pub gap-of : ℕ → MeterRow → MeterRow → ℕ
 gap-of division r s = (s .tick - r .tick) / bar-of division r
 
 abbrev pub bar-from : ℕ → MeterRow → List MeterRow → ℕ → ℕ
 bar-from division r [] p = r .tick + p * bar-of division r
-bar-from division r (s ∷ rest) p = cond (ltb p (gap-of division r s)) (r .tick + p * bar-of division r) (bar-from division s rest (p - gap-of division r s))
+bar-from division r (s ∷ rest) p =
+    cond (ltb p (gap-of division r s))
+    (r .tick + p * bar-of division r)
+    (bar-from division s rest (p - gap-of division r s))
 
 abbrev pub bar-start : ℕ → List MeterRow → ℕ → ℕ
 bar-start division [] p = p
@@ -45,7 +52,7 @@ row-from r [] t = r
 row-from r (s ∷ rest) t = cond (ltb t (s .tick)) r (row-from s rest t)
 
 abbrev pub row-at : List MeterRow → ℕ → MeterRow
-row-at [] t = record { tick = 0; nn = 0; dd = 0 }
+row-at [] t = no-row
 row-at (r ∷ rest) t = row-from r rest t
 
 pub record First-at (f : ℕ → ℕ) (t r : ℕ) : Type 0 where

@@ -1,3 +1,4 @@
 pub mod Rules
 pub mod BarLines
 pub mod Tables
+pub mod Lies

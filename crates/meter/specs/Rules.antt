@@ -16,7 +16,10 @@ abbrev pub bar-of : ℕ → MeterRow → ℕ
 bar-of division r = r .nn * (4 * division / 2 ^ (r .dd))
 
 abbrev pub row-kept : ℕ → MeterRow → Bool
-row-kept division r = leb 1 (r .nn) && leb (r .nn) 64 && leb (r .dd) 6 && eqb (4 * division % 2 ^ (r .dd)) 0 && leb (r .tick) 1073741823
+row-kept division r =
+    leb 1 (r .nn) && leb (r .nn) 64 && leb (r .dd) 6
+    && eqb (4 * division % 2 ^ (r .dd)) 0
+    && leb (r .tick) 1073741823
 
 abbrev pub next-kept : ℕ → MeterRow → MeterRow → Bool
 next-kept division r s = ltb (r .tick) (s .tick) && eqb ((s .tick - r .tick) % bar-of division r) 0
@@ -27,4 +30,8 @@ all-kept division r (s ∷ rest) = row-kept division r && next-kept division r s
 
 abbrev pub kept : ℕ → List MeterRow → Bool
 kept division [] = false
-kept division (r ∷ rest) = leb 1 division && leb division 32767 && leb (length (r ∷ rest)) 64 && eqb (r .tick) 0 && all-kept division r rest
+kept division (r ∷ rest) =
+    leb 1 division && leb division 32767
+    && leb (length (r ∷ rest)) 64
+    && eqb (r .tick) 0
+    && all-kept division r rest

@@ -5,14 +5,12 @@
 --   bars-to   the bars that begin before tick t by a table
 --   Lines     the law of bar lines: they begin at tick 0, each lies a bar of its current meter after the one before,
 --             and the bars begun before a tick are back of them
---   Bar-in    bar p lies in row i: the row's bars have begun, and the next row's have not
---   Tick-in   tick t lies in row i, alike
 -- Assumes nothing.
 use mathlib.Core.Path.{_≡_}
 use mathlib.Core.Bool.{true, false}
 use mathlib.Core.List.{List}
-use Prim.Native.Nat.{ℕ, _+_, _≤_, _<_}
-use lib.ListN.{take, getD}
+use Prim.Native.Nat.{ℕ, _+_, _≤_}
+use lib.ListN.{take}
 use Rattle.std.specs.declared.result.Result.{Result}
 use Rattle.std.specs.declared.result.Result.the-variants.{Ok, Err}
 use Rattle.refusal.specs.declared.Refusal.{Refusal}
@@ -39,14 +37,3 @@ pub record Lines (m : MeterTable) : Type 0 where
   pub starts : bar-tick m 0 ≡ 0
   pub follows : (p : ℕ) → bar-tick m (p + 1) ≡ bar-tick m p + bar-of (m .division) (row-at (rows-of m) (bar-tick m p))
   pub parted : (p t : ℕ) → (t ≤ bar-tick m p → bars-to m t ≤ p) × (bars-to m t ≤ p → t ≤ bar-tick m p)
-
-pub record Bar-in (m : MeterTable) (p i : ℕ) : Type 0 where
-  pub there : i < m .len
-  pub begun : getD (m .before) i 0 ≤ p
-  pub not-next : i + 1 < m .len → p < getD (m .before) (i + 1) 0
-
-pub record Tick-in (m : MeterTable) (t i : ℕ) : Type 0 where
-  pub there : i < m .len
-  pub begun : getD (m .rows) i (record { tick = 0; nn = 0; dd = 0 }) .tick ≤ t
-  pub current : getD (m .rows) i (record { tick = 0; nn = 0; dd = 0 }) ≡ row-at (rows-of m) t
-  pub not-next : i + 1 < m .len → t < getD (m .rows) (i + 1) (record { tick = 0; nn = 0; dd = 0 }) .tick

@@ -1,5 +1,5 @@
 // The row of a table in which a bar or a tick lies, by halving.
-ghost use Rattle.meter.specs.Tables.{Bar-in, Tick-in};
+ghost use Rattle.meter.specs.Lies.{Bar-in, Tick-in};
 use crate::table::MeterTable;
 
 impl MeterTable {

@@ -2,7 +2,8 @@
 ghost use mathlib.Core.Path.{_≡_};
 ghost use Prim.Native.Nat.{_^_, _≤_, min};
 ghost use Rattle.meter.specs.BarLines.{First-at, row-at};
-ghost use Rattle.meter.specs.Tables.{rows-of, bar-tick, bars-to, Lines, Bar-in, Tick-in};
+ghost use Rattle.meter.specs.Lies.{Bar-in, Tick-in};
+ghost use Rattle.meter.specs.Tables.{rows-of, bar-tick, bars-to, Lines};
 use crate::row::MeterRow;
 use crate::rules::bar_ticks;
 use crate::table::MeterTable;

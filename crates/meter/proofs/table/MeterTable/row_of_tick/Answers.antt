@@ -2,7 +2,7 @@ use mathlib.Core.Path.{_≡_, subst}
 use Prim.Native.Nat.{ℕ, _+_, _<_}
 use native.Mathlib.Omega.{arith}
 use lib.ListN.{getD}
-use Rattle.meter.proofs.Walk.{no-row}
+use Rattle.meter.specs.BarLines.{no-row}
 use Rattle.meter.proofs.Held.{some-held, tick-first, tick-in}
 use Rattle.meter.proofs.table.MeterTable.row_of_tick.Needs as need
 

@@ -1,6 +1,6 @@
 use Prim.Native.Nat.{_-_, _<_, _≤_}
 use lib.ListN.{getD}
-use Rattle.meter.proofs.Walk.{no-row}
+use Rattle.meter.specs.BarLines.{no-row}
 use Rattle.meter.proofs.table.MeterTable.row_of_tick.Given as given
 
 abbrev pub Inv-loop-high : given.InvT-loop-high
