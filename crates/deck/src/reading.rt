@@ -52,6 +52,13 @@ impl<'m, C: Timebase, F: WrittenForm, L: WrittenTimebase> Deck<'m, C, F, L> {
         self.head
     }
 
+    // The written form of the cues.
+    pub fn form(&self) -> &F
+        ensures { λ r. ⌜ now r ≡ now (self .entry) .form ⌝ }
+    {
+        &self.form
+    }
+
     // The cues of the book: by written form, part by part from the left, and then by number.
     pub fn cues(&self) -> &[Cue<F::Value>]
         ensures value { λ r. ⌜ now r ≡ cues (now (self .entry) .book) ⌝ }

@@ -1,4 +1,3 @@
 pub mod Words
 pub mod Requests
 pub mod Answers
-pub mod Replies

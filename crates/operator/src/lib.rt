@@ -1,6 +1,5 @@
 // What operators ask in lines of text, and how they are answered.
 pub mod answer;
 pub mod line;
-pub mod reply;
 pub mod request;
 mod words;

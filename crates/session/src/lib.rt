@@ -1,0 +1,2 @@
+// Operators' requests carried out on a deck.
+pub mod carry;
