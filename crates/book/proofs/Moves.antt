@@ -62,15 +62,9 @@ module _ {X : Type 0} (xs : List X) where
     pub used : length (take len xs) ≡ n
     used = simp length-take (omega arith)
 
-    module _ (F : List X → List X) (cs : List X) (read : cs ≡ take len xs) (i : ℕ) (moved : List X) where
-      pub after-enter : (c : X) → i ≤ length cs → n < length xs → inserted cs i c ≡ F cs
-          → moved ≡ paste xs (i + 1) (drop i xs) (n - i) → take (n + 1) (set moved i c) ≡ F (take len xs)
-      after-enter c le within made shifted =
-          let le′ : i ≤ n = omega (arith, used, ap length read) in
-          ap (λ u. take (n + 1) (set u i c)) shifted ∙ moved-up i n c le′ within ∙ ap (λ u. inserted u i c) (in-use ∙ sym read) ∙ made ∙ ap F read
+    module _ (i : ℕ) (moved : List X) where
+      pub after-insert : (c : X) → i ≤ n → n < length xs → moved ≡ paste xs (i + 1) (drop i xs) (n - i) → take (n + 1) (set moved i c) ≡ inserted (take len xs) i c
+      after-insert c le within shifted = ap (λ u. take (n + 1) (set u i c)) shifted ∙ moved-up i n c le within ∙ ap (λ u. inserted u i c) in-use
 
-      pub after-strike : i < length cs → F cs ≡ removed cs i
-          → moved ≡ paste xs i (drop (i + 1) xs) (n - (i + 1)) → take (n - 1) moved ≡ F (take len xs)
-      after-strike lt made shifted =
-          let lt′ : i < n = omega (arith, used, ap length read) in
-          ap (take (n - 1)) shifted ∙ moved-down i n lt′ (omega arith) ∙ ap (λ u. removed u i) (in-use ∙ sym read) ∙ sym made ∙ ap F read
+      pub after-remove : i < n → moved ≡ paste xs i (drop (i + 1) xs) (n - (i + 1)) → take (n - 1) moved ≡ removed (take len xs) i
+      after-remove lt shifted = ap (take (n - 1)) shifted ∙ moved-down i n lt (omega arith) ∙ ap (λ u. removed u i) in-use

@@ -11,6 +11,9 @@ ghost use Rattle.book.specs.Cues.{entered, has, struck, Rising, Splits};
 ghost use Rattle.book.specs.Held.{cues, room};
 use crate::cue::Cue;
 use crate::halving::split_at;
+use crate::memory::in_use;
+use crate::memory::insert_at;
+use crate::memory::remove_at;
 use crate::pages::Book;
 use crate::scan::entry_of;
 use crate::scan::find_number;
@@ -31,8 +34,7 @@ impl<'m, V: Copy> Book<'m, V> {
     pub fn held(&self) -> &[Cue<V>]
         ensures { λ r. ⌜ now r ≡ cues (now (self .entry)) ⌝ }
     {
-        let n = self.len.min(self.places.len());
-        &self.places[0..n]
+        in_use(self.places, self.len)
     }
 
     // The cue at a place, counted from 0.
@@ -63,15 +65,12 @@ impl<'m, V: Copy> Book<'m, V> {
         ensures after { λ r. ⌜ cues (now (self .exit)) ≡ cond r (entered cue (cues (now (self .entry)))) (cues (now (self .entry))) ⌝ }
         ensures room { λ _. ⌜ room (now (self .exit)) ≡ room (now (self .entry)) ⌝ }
     {
-        let n = self.len.min(self.places.len());
-        let most = self.places.len().min(MOST_CUES);
-        if n >= most {
+        if self.held().len() >= self.places.len().min(MOST_CUES) {
             return false;
         }
         let i = entry_of(self.held(), cue);
-        self.places.copy_within(i..n, i + 1);
-        self.places[i] = cue;
-        self.len = n + 1;
+        let len = self.len;
+        self.len = insert_at(self.places, len, i, cue);
         true
     }
 
@@ -81,12 +80,11 @@ impl<'m, V: Copy> Book<'m, V> {
         ensures after { λ _. ⌜ cues (now (self .exit)) ≡ struck number (cues (now (self .entry))) ⌝ }
         ensures room { λ _. ⌜ room (now (self .exit)) ≡ room (now (self .entry)) ⌝ }
     {
-        let n = self.len.min(self.places.len());
         let Some(i) = find_number(self.held(), number) else {
             return false;
         };
-        self.places.copy_within(i + 1..n, i);
-        self.len = n - 1;
+        let len = self.len;
+        self.len = remove_at(self.places, len, i);
         true
     }
 }

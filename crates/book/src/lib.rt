@@ -2,6 +2,7 @@
 pub mod cue;
 pub mod edits;
 mod halving;
+mod memory;
 pub mod pages;
 pub mod record;
 pub mod scan;

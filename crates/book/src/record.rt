@@ -2,22 +2,17 @@
 ghost use mathlib.Core.Path.{_≡_};
 ghost use mathlib.Core.List.{[], _∷_, _++_};
 ghost use mathlib.Core.Bool.{cond};
-ghost use Prim.Native.Nat.{min, _-_, _<_};
+ghost use Prim.Native.Nat.{min, _-_};
 ghost use lib.Dec.{ltb};
-ghost use lib.ListN.{length, set};
+ghost use lib.ListN.{length};
 ghost use Rattle.book.specs.Held.{lines as written, log-room};
 use crate::cue::Line;
+use crate::memory::in_use;
+use crate::memory::push;
 use crate::pages::Log;
 
 // How many lines a log uses at most.
 pub const MOST_LINES: usize = 65_535;
-
-fn put<X: Copy>(lines: &mut [X], i: usize, line: X)
-    requires { ⌜ i < length (now lines) ⌝ }
-    ensures { λ _. ⌜ now (lines .exit) ≡ set (now (lines .entry)) i line ⌝ }
-{
-    lines[i] = line;
-}
 
 impl<'m, L: Copy> Log<'m, L> {
     // An empty log over the lent lines.
@@ -32,8 +27,7 @@ impl<'m, L: Copy> Log<'m, L> {
     pub fn held(&self) -> &[Line<L>]
         ensures { λ r. ⌜ now r ≡ written (now (self .entry)) ⌝ }
     {
-        let n = self.len.min(self.lines.len());
-        &self.lines[0..n]
+        in_use(self.lines, self.len)
     }
 
     // How many lines are free.
@@ -50,13 +44,11 @@ impl<'m, L: Copy> Log<'m, L> {
         ensures after { λ r. ⌜ written (now (self .exit)) ≡ cond r (written (now (self .entry)) ++ (line ∷ [])) (written (now (self .entry))) ⌝ }
         ensures room { λ _. ⌜ log-room (now (self .exit)) ≡ log-room (now (self .entry)) ⌝ }
     {
-        let n = self.len.min(self.lines.len());
-        let most = self.lines.len().min(MOST_LINES);
-        if n >= most {
+        if self.free() == 0 {
             return false;
         }
-        put(self.lines, n, line);
-        self.len = n + 1;
+        let len = self.len;
+        self.len = push(self.lines, len, line);
         true
     }
 }
