@@ -2,9 +2,10 @@
 use mathlib.Core.Path.{_≡_, refl, sym, ap, _∙_}
 use mathlib.Core.List.{List, [], _∷_}
 use mathlib.Core.Bool.{Bool, true, false, cond, not, _||_}
+use mathlib.Core.Logic.{_⊎_, inl, inr}
 use Prim.Native.Nat.{ℕ, _+_, _-_, _≤_, _<_}
 use native.Mathlib.Omega.{arith}
-use borrow.Author.Tests.{lt-ltb, le-ltb, le-leb, lt-leb}
+use borrow.Author.Tests.{ltb-true, ltb-false, lt-ltb, le-ltb, le-leb, lt-leb}
 use lib.Dec.{eqb, leb, ltb}
 use lib.ListN.{length}
 use Rattle.std.proofs.shelf.Tests.{cond-true, cond-false}
@@ -15,7 +16,6 @@ use Rattle.std.specs.shelf.Lists.{kept-by}
 use Rattle.std.specs.declared.option.Option.{Option}
 use Rattle.std.specs.declared.option.Option.the-variants.{Some, None}
 use Rattle.std.specs.declared.result.Result.the-variants.{Ok, Err}
-use Rattle.forms.specs.Pairing.{read-as}
 use Rattle.refusal.specs.declared.Refusal.{Refusal}
 use Rattle.refusal.specs.declared.Refusal.the-variants.{NoPosition, NotWritten, CueOutOfRange, CueAlreadyIn, NoFreePlace, CueNotIn, HeadPastEnd, NoFreeLines}
 use Rattle.timebase.specs.Meaning.{placed}
@@ -27,6 +27,7 @@ use Rattle.history.specs.World.{World, and-then, sample-of}
 use Rattle.history.specs.Accepted.{stands, numbers-in, first, out-of-range, refusal}
 use Rattle.history.specs.Contents.{cue-of, book-of}
 use Rattle.history.proofs.Kept.{Kept}
+use Rattle.deck.specs.Blocks.{position-of}
 use Rattle.history.proofs.Standing.{numbers-in-is}
 
 -- a list has a cue of a number where the cues of that number are some
@@ -58,14 +59,25 @@ pub struck-absent : {V : Type 0} (n : ℕ) (xs : List (Cue V)) → has n xs ≡ 
 struck-absent n [] e = refl
 struck-absent n (x ∷ xs) e = absent-step x xs (struck n xs) (numbered n x) (has n xs) e (struck-absent n xs)
 
--- what reading a written form says of its number
-pub read-ok : (o : Option ℕ) (p : ℕ) → Ok p ≡ read-as o → o ≡ Some p
-read-ok None p e = absurd (let y : _≡_ {A = ℕ} 0 1 = cc in omega arith)
-read-ok (Some q) p e = cc
+-- what the position of a written form says of its number
+pub at-ok : (o : Option ℕ) (len p : ℕ) → Ok p ≡ position-of o len → (o ≡ Some p) × (p < len)
+at-ok None len p e = absurd (let y : _≡_ {A = ℕ} 0 1 = cc in omega arith)
+at-ok (Some q) len p e = by-test (ltb q len) refl e
+  where
+    by-test : (b : Bool) → ltb q len ≡ b → Ok p ≡ cond b (Ok q) (Err NoPosition) → (Some q ≡ Some p) × (p < len)
+    by-test true t is = let same : q ≡ p = cc in (ap Some same, let l = ltb-true q len t in omega arith)
+    by-test false t is = absurd (let y : _≡_ {A = ℕ} 0 1 = cc in omega arith)
 
-pub read-err : (o : Option ℕ) (why : Refusal) → Err why ≡ read-as o → (o ≡ None) × (why ≡ NotWritten)
-read-err None why e = (refl, cc)
-read-err (Some q) why e = absurd (let y : _≡_ {A = ℕ} 0 1 = cc in omega arith)
+-- why a written form has no position
+pub at-err : (o : Option ℕ) (len : ℕ) (why : Refusal) → Err why ≡ position-of o len
+  → ((o ≡ None) × (why ≡ NotWritten)) ⊎ ((p : ℕ) × (o ≡ Some p) × (len ≤ p) × (why ≡ NoPosition))
+at-err None len why e = inl (refl, cc)
+at-err (Some q) len why e = by-test (ltb q len) refl e
+  where
+    by-test : (b : Bool) → ltb q len ≡ b → Err why ≡ cond b (Ok q) (Err NoPosition)
+      → ((Some q ≡ None) × (why ≡ NotWritten)) ⊎ ((p : ℕ) × (Some q ≡ Some p) × (len ≤ p) × (why ≡ NoPosition))
+    by-test true t is = absurd (let y : _≡_ {A = ℕ} 0 1 = cc in omega arith)
+    by-test false t is = inr (q, refl, ltb-false q len t, cc)
 
 module _ {V W : Type 0} (w : World V W) (a : List (Call V)) (k : Kept V W w a) where
   pub has-stands : (n : ℕ) → has n (book-of w a) ≡ isSome (stands n a)

@@ -4,41 +4,52 @@ use mathlib.Core.List.{List, [], _∷_, _++_, map, append-assoc}
 use mathlib.Core.Bool.{Bool, true, false, cond}
 use Prim.Native.Nat.{ℕ, _+_, _-_, _≤_, _<_}
 use native.Mathlib.Omega.{arith}
-use borrow.Author.Tests.{lt-ltb, le-ltb}
-use lib.Dec.{ltb}
+use lib.Dec.{leb, ltb}
 use lib.ListN.{length, getD}
-use Rattle.std.proofs.shelf.Tests.{cond-true, cond-false, cases-bool, ltb-true, ltb-false}
+use Rattle.std.proofs.shelf.Tests.{ltb-false, leb-true, leb-false}
 use Rattle.std.proofs.shelf.Lists.{append-nil, map-append, length-append, length-map}
 use Rattle.std.proofs.shelf.Edits.{between-none, between-more, length-between}
 use Rattle.std.specs.shelf.Lists.{between}
 use Rattle.std.specs.declared.option.Option.{Option}
-use Rattle.std.specs.declared.result.Result.the-variants.{Ok, Err}
-use Rattle.refusal.specs.declared.Refusal.{Refusal}
-use Rattle.refusal.specs.declared.Refusal.the-variants.{NoPosition}
-use Rattle.timebase.specs.Meaning.{Meaning, placed}
+use Rattle.std.specs.declared.option.Option.the-variants.{Some, None}
+use Rattle.timebase.specs.Meaning.{Meaning}
 use Rattle.written.specs.Current.{current-at}
 use Rattle.book.specs.declared.cue.Cue.{Cue}
 use Rattle.book.specs.declared.cue.Line.{Line}
 use Rattle.book.specs.Held.{cues, room, lines, log-room}
 use Rattle.history.specs.World.{World}
+use Rattle.history.specs.Accepted.{end}
 use Rattle.history.specs.Contents.{line-of}
 use Rattle.deck.specs.declared.state.Deck.{Deck}
+use Rattle.deck.specs.Blocks.{block-end, line-for}
 use Rattle.deck.specs.Runs.{world-of, Keeps, Logs}
 use Rattle.deck.proofs.Ranges.{one-of}
 
-place-step : (m : Meaning) (p s : ℕ) (b : Bool) → ltb p (m .len) ≡ b → Ok s ≡ cond b (Ok (m .rule p)) (Err NoPosition) → s ≡ m .rule p
-place-step m p s true e is = cc
-place-step m p s false e is = absurd (let y : _≡_ {A = ℕ} 0 1 = cc in omega arith)
+some-step : {X : Type 0} (x y : X) (b : Bool) → Some x ≡ cond b (Some y) None → x ≡ y
+some-step x y true e = cc
+some-step x y false e = absurd (let z : _≡_ {A = ℕ} 0 1 = cc in omega arith)
 
-pub placed-ok : (m : Meaning) (p s : ℕ) → Ok s ≡ placed m p → s ≡ m .rule p
-placed-ok m p s is = place-step m p s (ltb p (m .len)) refl is
+none-step : {X : Type 0} (y : X) (b : Bool) → None ≡ cond b (Some y) None → b ≡ false
+none-step y true e = absurd (let z : _≡_ {A = ℕ} 0 1 = cc in omega arith)
+none-step y false e = refl
 
-refuse-step : (m : Meaning) (p : ℕ) (why : Refusal) (b : Bool) → ltb p (m .len) ≡ b → Err why ≡ cond b (Ok (m .rule p)) (Err NoPosition) → m .len ≤ p
-refuse-step m p why true e is = absurd (let y : _≡_ {A = ℕ} 0 1 = cc in omega arith)
-refuse-step m p why false e is = ltb-false p (m .len) e
+-- the line that a cue has, and why one has none
+pub line-some : {V W : Type 0} (w : World V W) (x : Cue V) (l : Line W) → Some l ≡ line-for w x → l ≡ line-of w x
+line-some w x l e = some-step l (line-of w x) (ltb (x .position) (w .cues .len)) e
 
-pub placed-err : (m : Meaning) (p : ℕ) (why : Refusal) → Err why ≡ placed m p → m .len ≤ p
-placed-err m p why is = refuse-step m p why (ltb p (m .len)) refl is
+pub line-none : {V W : Type 0} (w : World V W) (x : Cue V) → None ≡ line-for w x → w .cues .len ≤ x .position
+line-none w x e = ltb-false (x .position) (w .cues .len) (none-step (line-of w x) (ltb (x .position) (w .cues .len)) e)
+
+-- the end that a block has, and why one has none
+pub end-some : (h n until : ℕ) → Some until ≡ block-end h n → (until ≡ h + n) × (h + n ≤ end)
+end-some h n until e = by-test (leb (h + n) end) refl e
+  where
+    by-test : (b : Bool) → leb (h + n) end ≡ b → Some until ≡ cond b (Some (h + n)) None → (until ≡ h + n) × (h + n ≤ end)
+    by-test true t is = (cc, leb-true (h + n) end t)
+    by-test false t is = absurd (let z : _≡_ {A = ℕ} 0 1 = cc in omega arith)
+
+pub end-none : (h n : ℕ) → None ≡ block-end h n → end < h + n
+end-none h n e = leb-false (h + n) end (none-step (h + n) (leb (h + n) end) e)
 
 pub one-between : {X : Type 0} (xs : List X) (i : ℕ) (d : X) → i < length xs → between i (i + 1) xs ≡ getD xs i d ∷ []
 one-between xs i d h = between-more xs i i d (omega arith) h ∙ ap (λ ys. ys ++ (getD xs i d ∷ [])) (between-none xs i)
@@ -47,11 +58,6 @@ pub joined : {X : Type 0} (xs : List X) (from i : ℕ) → from ≤ i → i < le
 joined xs from i le h =
     let d = one-of xs (omega arith) in
     between-more xs from i d le h ∙ ap (λ ys. between from i xs ++ ys) (sym (one-between xs i d h))
-
-pub line-is : {V W : Type 0} (w : World V W) (x : Cue V) (s : ℕ) (label : Option W) → s ≡ w .cues .rule (x .position) → label ≡ w .label s
-    → record { cue = x .number; sample = s; label = label } ≡ line-of w x
-line-is w x s label at is =
-    ap (λ l. record { cue = x .number; sample = s; label = l }) is ∙ ap (λ t. record { cue = x .number; sample = t; label = w .label t }) at
 
 module _ {C F L V W : Type 0} where
   pub logs-none : (w : World V W) (i : ℕ) (d : Deck C F L V W) → Logs w i i d d

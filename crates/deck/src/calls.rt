@@ -3,6 +3,7 @@ ghost use mathlib.Core.Path.{_≡_};
 ghost use mathlib.Core.Bool.{not};
 ghost use Rattle.history.specs.declared.call.Call.the-variants.{Add, Strike, Seek, Play};
 ghost use Rattle.history.specs.Accepted.{out-of-range};
+ghost use Rattle.deck.specs.Blocks.{position-of};
 ghost use Rattle.deck.specs.Runs.{world-of, Taken, done};
 use crate::state::Deck;
 use book::cue::Cue;
@@ -20,6 +21,17 @@ fn in_range(number: u64) -> bool
 }
 
 impl<'m, C: Timebase, F: WrittenForm, L: WrittenTimebase> Deck<'m, C, F, L> {
+    // The position of a written form, refused where it is not valid, and then where the pile is too short.
+    fn position_of(&self, at: F::Value) -> Result<u64, Refusal>
+        ensures { λ r. ⌜ r ≡ position-of (F·WrittenForm .number (now (self .entry) .form) at) (C·Timebase .meaning (now (self .entry) .pile) .len) ⌝ }
+    {
+        match self.form.read(at) {
+            Ok(position) if position < self.pile.len() => Ok(position),
+            Ok(_) => Err(Refusal::NoPosition),
+            Err(why) => Err(why),
+        }
+    }
+
     // A cue put into the book.
     pub fn add(&mut self, number: u64, at: F::Value) -> Result<(), Refusal>
         ensures { λ r. ⌜ Taken (Unit {0}) (world-of (C·Timebase .meaning) (F·WrittenForm .number) (L·Timebase .meaning) (L·WrittenTimebase .form) (now (self .entry))) (now (self .entry)) (now (self .exit)) (Add number at) done r ⌝ }
@@ -30,13 +42,10 @@ impl<'m, C: Timebase, F: WrittenForm, L: WrittenTimebase> Deck<'m, C, F, L> {
         if self.book.has(number) {
             return Err(Refusal::CueAlreadyIn);
         }
-        let position = match self.form.read(at) {
+        let position = match self.position_of(at) {
             Ok(position) => position,
             Err(why) => return Err(why),
         };
-        if position >= self.pile.len() {
-            return Err(Refusal::NoPosition);
-        }
         let cue = Cue {
             position,
             number,

@@ -1,9 +1,9 @@
 use mathlib.Core.Path.{_≡_, refl, sym, ap, _∙_, subst}
 use mathlib.Core.Bool.{true, false}
 use Rattle.std.specs.declared.option.Option.the-variants.{Some}
-use Rattle.refusal.specs.declared.Refusal.the-variants.{NoPosition, NotWritten, CueAlreadyIn, NoFreePlace}
+use mathlib.Core.Logic.{⊎-elim}
+use Rattle.refusal.specs.declared.Refusal.the-variants.{CueAlreadyIn, NoFreePlace}
 use Prim.Native.Nat.{_<_, _≤_}
-use native.Mathlib.Omega.{arith}
 use borrow.Author.Tests.{true-ltb, false-ltb}
 use lib.ListN.{length}
 use Rattle.std.specs.Options.{valueOr}
@@ -14,7 +14,7 @@ use Rattle.history.specs.Accepted.{accepted, out-of-range}
 use Rattle.history.specs.Contents.{cue-of, book-of}
 use Rattle.history.proofs.Keeping.{kept-all}
 use Rattle.deck.specs.Runs.{world-of, Has-had, done}
-use Rattle.deck.proofs.Checks.{read-ok, read-err, add-range, add-in, add-bad, add-past, add-full, add-passes}
+use Rattle.deck.proofs.Checks.{at-ok, at-err, add-range, add-in, add-bad, add-past, add-full, add-passes}
 use Rattle.deck.proofs.Steps.{refused, refused-by, taken}
 use Rattle.deck.proofs.state.Deck.add.Needs as need
 
@@ -33,23 +33,17 @@ returns-in-Err g c =
     let d = c .args .self .now in
     let w = world-of (g .C·Timebase .meaning) (g .F·WrittenForm .number) (g .L·Timebase .meaning) (g .L·WrittenTimebase .form) d in
     let n = c .args .number in
+    let v = c .args .at in
     let range : out-of-range n ≡ false = c .if-not-in-range .ensures tt in
     let not-in : false ≡ has n (cues (d .book)) = c .if-has .ensures tt in
-    let bad = read-err (w .number (c .args .at)) (c .in-Err .why) (c .in-Err .ensures tt) in
-    refused w d (Add n (c .args .at)) done (c .in-Err .why)
-    (λ calls had. add-bad w (accepted w calls) (kept-all w calls) n (c .args .at) range (sym (not-in ∙ ap (has n) (had .cues-are))) (bad .0) ∙ ap Some (sym (bad .1)))
-
-pub returns-then-position-len : need.returns-then-position-len
-returns-then-position-len g c =
-    let d = c .args .self .now in
-    let w = world-of (g .C·Timebase .meaning) (g .F·WrittenForm .number) (g .L·Timebase .meaning) (g .L·WrittenTimebase .form) d in
-    let n = c .args .number in
-    let range : out-of-range n ≡ false = c .if-not-in-range .ensures tt in
-    let not-in : false ≡ has n (cues (d .book)) = c .if-has .ensures tt in
-    let is = read-ok (w .number (c .args .at)) (c .in-Ok .position) (c .in-Ok .ensures tt) in
-    let past : w .cues .len ≤ c .in-Ok .position = omega (arith, c .len .ensures, c .if-position-len .taken) in
-    refused w d (Add n (c .args .at)) done NoPosition
-    (λ calls had. add-past w (accepted w calls) (kept-all w calls) n (c .args .at) (c .in-Ok .position) is range (sym (not-in ∙ ap (has n) (had .cues-are))) past)
+    refused w d (Add n v) done (c .in-Err .why)
+    (λ calls had.
+        let lacks = sym (not-in ∙ ap (has n) (had .cues-are)) in
+        let k = kept-all w calls in
+        ⊎-elim
+        (λ bad. add-bad w (accepted w calls) k n v range lacks (bad .0) ∙ ap Some (sym (bad .1)))
+        (λ past. add-past w (accepted w calls) k n v (past .0) (past .1) range lacks (past .2) ∙ ap Some (sym (past .3)))
+        (at-err (w .number v) (w .cues .len) (c .in-Err .why) (c .in-Err .ensures tt)))
 
 pub returns-then-enter : need.returns-then-enter
 returns-then-enter g c =
@@ -60,8 +54,9 @@ returns-then-enter g c =
     let p = c .in-Ok .position in
     let range : out-of-range n ≡ false = c .if-not-in-range .ensures tt in
     let not-in : false ≡ has n (cues (d .book)) = c .if-has .ensures tt in
-    let is = read-ok (w .number v) p (c .in-Ok .ensures tt) in
-    let inside : p < w .cues .len = omega (arith, c .len .ensures, c .if-position-len .left) in
+    let at = at-ok (w .number v) (w .cues .len) p (c .in-Ok .ensures tt) in
+    let is = at .0 in
+    let inside = at .1 in
     let free : length (cues (d .book)) < room (d .book) = true-ltb _ _ (c .if-enter .ensures tt .value) in
     let cue : record { position = p; number = n; at = v } ≡ cue-of w n v = ap (λ o. record { position = valueOr o 0; number = n; at = v }) (sym is) in
     taken w d (Add n v) done _ 0
@@ -85,8 +80,9 @@ returns-else-enter g c =
     let p = c .in-Ok .position in
     let range : out-of-range n ≡ false = c .if-not-in-range .ensures tt in
     let not-in : false ≡ has n (cues (d .book)) = c .if-has .ensures tt in
-    let is = read-ok (w .number v) p (c .in-Ok .ensures tt) in
-    let inside : p < w .cues .len = omega (arith, c .len .ensures, c .if-position-len .left) in
+    let at = at-ok (w .number v) (w .cues .len) p (c .in-Ok .ensures tt) in
+    let is = at .0 in
+    let inside = at .1 in
     let full : room (d .book) ≤ length (cues (d .book)) = false-ltb _ _ (c .if-enter .ensures tt .value) in
     refused-by w d (Add n v) done _ NoFreePlace refl (c .if-enter .ensures tt .after) refl
     (record { piles = refl; forms = refl; frames = refl; places = c .if-enter .ensures tt .room; lines = refl })
