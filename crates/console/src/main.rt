@@ -32,6 +32,7 @@ const FRAMES: u64 = 2_589_409;
 
 // How many cues and lines the host lends memory for.
 const PLACES: usize = 4096;
+
 const LINES: usize = 65_535;
 
 // The labels that cues and log lines are written in.
@@ -110,6 +111,12 @@ fn main(rt: LibcRuntime) -> io::Result<()> {
     let mut places = vec![in rt.alloc(); cue; PLACES]?;
     let mut lines = vec![in rt.alloc(); line; LINES]?;
     let log = Written::new(frames, LABELS);
-    let mut deck = Deck::new(frames, LABELS, log, places.as_mut_slice(), lines.as_mut_slice());
+    let mut deck = Deck::new(
+        frames,
+        LABELS,
+        log,
+        places.as_mut_slice(),
+        lines.as_mut_slice(),
+    );
     serve(&rt, &mut deck)
 }

@@ -70,12 +70,12 @@ at-ok (Some q) len p e = by-test (ltb q len) refl e
 
 -- why a written form has no position
 pub at-err : (o : Option ℕ) (len : ℕ) (why : Refusal) → Err why ≡ position-of o len
-  → ((o ≡ None) × (why ≡ NotWritten)) ⊎ ((p : ℕ) × (o ≡ Some p) × (len ≤ p) × (why ≡ NoPosition))
+    → ((o ≡ None) × (why ≡ NotWritten)) ⊎ ((p : ℕ) × (o ≡ Some p) × (len ≤ p) × (why ≡ NoPosition))
 at-err None len why e = inl (refl, cc)
 at-err (Some q) len why e = by-test (ltb q len) refl e
   where
     by-test : (b : Bool) → ltb q len ≡ b → Err why ≡ cond b (Ok q) (Err NoPosition)
-      → ((Some q ≡ None) × (why ≡ NotWritten)) ⊎ ((p : ℕ) × (Some q ≡ Some p) × (len ≤ p) × (why ≡ NoPosition))
+        → ((Some q ≡ None) × (why ≡ NotWritten)) ⊎ ((p : ℕ) × (Some q ≡ Some p) × (len ≤ p) × (why ≡ NoPosition))
     by-test true t is = absurd (let y : _≡_ {A = ℕ} 0 1 = cc in omega arith)
     by-test false t is = inr (q, refl, ltb-false q len t, cc)
 

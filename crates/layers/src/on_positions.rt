@@ -25,13 +25,13 @@ pub trait PositionMap {
         ensures { λ r. ⌜ r ≡ back (now (self .entry)) (min p (2 ^ 36)) ⌝ };
 }
 
-pub(crate) fn length<T: Timebase, G: PositionMap>(lower: &T, map: &G) -> u64
+pub fn length<T: Timebase, G: PositionMap>(lower: &T, map: &G) -> u64
     ensures { λ r. ⌜ r ≡ on-positions (G·PositionMap .up (now (map .entry))) (T·Timebase .meaning (now (lower .entry))) .len ⌝ }
 {
     map.back(lower.len())
 }
 
-pub(crate) fn place_changed<T: Timebase, G: PositionMap>(
+pub fn place_changed<T: Timebase, G: PositionMap>(
     lower: &T,
     map: &G,
     p: u64,
@@ -45,7 +45,7 @@ pub(crate) fn place_changed<T: Timebase, G: PositionMap>(
     lower.place(map.up(p))
 }
 
-pub(crate) fn located<T: Timebase, G: PositionMap>(lower: &T, map: &G, s: u64) -> u64
+pub fn located<T: Timebase, G: PositionMap>(lower: &T, map: &G, s: u64) -> u64
     ensures least { λ r. ⌜ Least (on-positions (G·PositionMap .up (now (map .entry))) (T·Timebase .meaning (now (lower .entry)))) s r ⌝ }
     ensures agrees { λ r. ⌜ Agree (on-positions (G·PositionMap .up (now (map .entry))) (T·Timebase .meaning (now (lower .entry)))) s r ⌝ }
 {

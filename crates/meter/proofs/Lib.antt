@@ -11,4 +11,3 @@ pub mod Found
 pub mod Held
 pub mod Answering
 pub mod Lines
-pub mod Placing

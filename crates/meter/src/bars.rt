@@ -1,10 +1,14 @@
 // The bars: position p is the lower timebase's position at which bar p + 1 begins, by a meter table.
 ghost use mathlib.Core.Path.{_≡_};
-ghost use Rattle.timebase.specs.Meaning.{Least, Agree, placed};
 ghost use Rattle.layers.specs.Layers.{on-positions};
-ghost use Rattle.meter.specs.Tables.{bar-tick};
+ghost use Rattle.meter.specs.Tables.{bar-tick, bars-to};
 use crate::table::MeterTable;
+use layers::on_positions::PositionMap;
+use layers::on_positions::length;
+use layers::on_positions::located;
+use layers::on_positions::place_changed;
 use refusal::Refusal;
+use timebase::base::LAST_SAMPLE;
 use timebase::base::Timebase;
 
 #[derive(Clone, Copy, Drop)]
@@ -22,23 +26,18 @@ impl<T> Bars<T> {
     }
 }
 
-fn length<T: Timebase>(lower: &T, meter: &MeterTable) -> u64
-    ensures { λ r. ⌜ r ≡ on-positions (bar-tick (now (meter .entry))) (T·Timebase .meaning (now (lower .entry))) .len ⌝ }
-{
-    meter.bar_reaching(lower.len())
-}
+pub impl PositionMap for MeterTable as MeterMap {
+    ghost up = { bar-tick };
 
-fn place_bar<T: Timebase>(lower: &T, meter: &MeterTable, p: u64) -> Result<u64, Refusal>
-    ensures { λ r. ⌜ r ≡ placed (on-positions (bar-tick (now (meter .entry))) (T·Timebase .meaning (now (lower .entry)))) p ⌝ }
-{
-    lower.place(meter.bar_tick(p))
-}
+    ghost back = { bars-to };
 
-fn locate_bar<T: Timebase>(lower: &T, meter: &MeterTable, s: u64) -> u64
-    ensures least { λ r. ⌜ Least (on-positions (bar-tick (now (meter .entry))) (T·Timebase .meaning (now (lower .entry)))) s r ⌝ }
-    ensures agrees { λ r. ⌜ Agree (on-positions (bar-tick (now (meter .entry))) (T·Timebase .meaning (now (lower .entry)))) s r ⌝ }
-{
-    meter.bar_reaching(lower.locate(s))
+    fn up(&self, p: u64) -> u64 {
+        self.bar_tick(p)
+    }
+
+    fn back(&self, p: u64) -> u64 {
+        self.bar_reaching(p.min(LAST_SAMPLE + 1))
+    }
 }
 
 pub impl<T: Timebase> Timebase for Bars<T> as BarsBase {
@@ -50,10 +49,10 @@ pub impl<T: Timebase> Timebase for Bars<T> as BarsBase {
     }
 
     fn place(&self, p: u64) -> Result<u64, Refusal> {
-        place_bar(&self.lower, &self.meter, p)
+        place_changed(&self.lower, &self.meter, p)
     }
 
     fn locate(&self, s: u64) -> u64 {
-        locate_bar(&self.lower, &self.meter, s)
+        located(&self.lower, &self.meter, s)
     }
 }

@@ -6,23 +6,22 @@
 -- Assumes nothing.
 use mathlib.Core.Path.{_≡_, refl, ap, sym, subst, _∙_}
 use mathlib.Core.Bool.{Bool, true, false, cond, _&&_}
-use mathlib.Core.List.{List, [], _∷_, _++_, append-assoc}
-use Prim.Native.Nat.{ℕ, _+_, _-_, _*_, _/_, _%_, _^_, _≤_, _<_}
+use mathlib.Core.List.{List}
+use Prim.Native.Nat.{ℕ, _+_, _-_, _*_, _^_, _≤_, _<_}
 use native.Mathlib.Omega.{arith}
 use lib.Dec.{ltb, leb}
-use lib.ListN.{length, getD, take, drop, set, length-append, length-take}
-use borrow.Author.Needs.{needs}
+use lib.ListN.{length, getD, take, length-take}
 use Rattle.std.specs.Reads.{value, Digits}
 use Rattle.std.specs.Text.{In, digitValue}
 use Rattle.std.specs.shelf.Text.{allDigits}
 use Rattle.std.specs.declared.option.Option.the-variants.{Some, None}
-use Rattle.std.proofs.shelf.Lists.{drop-set, set-split, take-all}
-use Rattle.std.proofs.shelf.Tests.{and-parts, and-from, lt-ltb, le-leb, ltb-true, leb-true, cond-true, cond-false, cases-bool}
+use Rattle.std.proofs.shelf.Lists.{take-all}
+use Rattle.std.proofs.shelf.Tests.{and-parts, and-from, lt-ltb, le-leb, ltb-true, leb-true, cond-true}
 use Rattle.std.proofs.shelf.Digits.{value-more, digits-more}
 use Rattle.std.proofs.shelf.Numerals.{Numerals, numerals-by-value, tells-allDigits, not-in-digits, value-short}
-use Rattle.std.proofs.shelf.Decimals.{decimal-digit, decimal-step, digits-decimal, value-decimal, length-decimal-le, decimal-some}
+use Rattle.std.proofs.shelf.Decimals.{digits-decimal, value-decimal, length-decimal-le, decimal-some}
 use Rattle.std.proofs.shelf.Ways.{tells}
-use Rattle.text.specs.Decimal.{digits, fair, plain, fits-in, room-for, put-at-start}
+use Rattle.text.specs.Decimal.{digits, fair, plain}
 
 own : Numerals (λ ds. allDigits ds ≡ true) (value 10)
 own = numerals-by-value _ tells-allDigits
@@ -44,7 +43,8 @@ fair-parts word h =
     let p = and-parts (ltb 0 (length word)) _ h in
     let q = and-parts (leb (length word) 20) _ (p .1) in
     let r = and-parts (allDigits word) _ (q .1) in
-    record { some = ltb-true 0 (length word) (p .0); short = leb-true (length word) 20 (q .0); figures = r .0; below = ltb-true (value 10 word) (2 ^ 64) (r .1) }
+    record
+    { some = ltb-true 0 (length word) (p .0); short = leb-true (length word) 20 (q .0); figures = r .0; below = ltb-true (value 10 word) (2 ^ 64) (r .1) }
 
 pub plain-is : (word : List ℕ) → Fair word → plain word ≡ Some (value 10 word)
 plain-is word h = cond-true (fair word) (Some (value 10 word)) None (fair-from word h)
@@ -63,9 +63,11 @@ spoiled word i h bad = plain-none word (λ f. not-in-digits own word (getD word 
 pub value-small : (ds : List ℕ) → Digits 10 ds → length ds ≤ 20 → value 10 ds < 10 ^ 20
 value-small ds h short = value-short own ds 20 (own .from ds h) short
 
-pub read-is : (word : List ℕ) (n : ℕ) → 0 < length word → length word ≤ 20 → Digits 10 word → n ≡ value 10 word → n < 2 ^ 64 → Some n ≡ plain word
+pub read-is : (word : List ℕ) (n : ℕ) → 0 < length word → length word ≤ 20 → Digits 10 word → n ≡ value 10 word
+    → n < 2 ^ 64 → Some n ≡ plain word
 read-is word n some short figures is below =
-    ap Some is ∙ sym (plain-is word (record { some = some; short = short; figures = own .from word figures; below = omega arith }))
+    ap Some is
+    ∙ sym (plain-is word (record { some = some; short = short; figures = own .from word figures; below = omega arith }))
 
 pub too-large : (word : List ℕ) (n : ℕ) → n ≡ value 10 word → 2 ^ 64 ≤ n → plain word ≡ None
 too-large word n is large = plain-none word (λ f. omega (arith, f .below))
@@ -74,68 +76,32 @@ too-large word n is large = plain-none word (λ f. omega (arith, f .below))
 pub plain-digits : (n : ℕ) → n < 2 ^ 64 → plain (digits n) ≡ Some n
 plain-digits n small =
     let v : value 10 (digits n) ≡ n = value-decimal own n small in
-    plain-is (digits n) (record { some = decimal-some n small; short = length-decimal-le 20 n (omega arith) (omega arith) small; figures = digits-decimal own n small; below = omega arith })
+    plain-is (digits n)
+    (record { some = decimal-some n small; short = length-decimal-le 20 n (omega arith) (omega arith) small; figures = digits-decimal own n small; below = omega arith })
     ∙ ap Some v
-
-pub digits-step : (n : ℕ) → n < 2 ^ 64 → 10 ≤ n → digits n ≡ digits (n / 10) ++ ((48 + n % 10) ∷ [])
-digits-step n small big = decimal-step n big small
-
-pub width-one : (n : ℕ) → n < 10 → length (digits n) ≡ 1
-width-one n h = ap length (decimal-digit n h)
-
-pub width-step : (n : ℕ) → n < 2 ^ 64 → 10 ≤ n → length (digits n) ≡ length (digits (n / 10)) + 1
-width-step n small big = ap length (digits-step n small big) ∙ length-append (digits (n / 10)) ((48 + n % 10) ∷ [])
 
 pub width-most : (n : ℕ) → n < 2 ^ 64 → length (digits n) ≤ 20
 width-most n small = length-decimal-le 20 n (omega arith) (omega arith) small
 
-pub div-less : (n : ℕ) → 10 ≤ n → n / 10 < n
-div-less n big = omega arith
-
--- one digit more, from the right, in a buffer that holds the digits after it
-pub fill-step : (rest at : ℕ) (out text : List ℕ) → rest < 2 ^ 64 → 10 ≤ rest → length (digits rest) ≡ at → at ≤ length out → digits rest ++ drop at out ≡ text → digits (rest / 10) ++ drop (at - 1) (set out (at - 1) (48 + rest % 10)) ≡ text
-fill-step rest at out text small big len inside whole =
-    let w = width-step rest small big in
-    let before : at - 1 < length out = omega arith in
-    let back : at - 1 + 1 ≡ at = omega arith in
-    let d : drop (at - 1) (set out (at - 1) (48 + rest % 10)) ≡ (48 + rest % 10) ∷ drop at out = drop-set out (at - 1) (48 + rest % 10) before ∙ ap (λ k. (48 + rest % 10) ∷ drop k out) back in
-    ap (λ xs. digits (rest / 10) ++ xs) d
-    ∙ sym (append-assoc (digits (rest / 10)) ((48 + rest % 10) ∷ []) (drop at out))
-    ∙ ap (λ xs. xs ++ drop at out) (sym (digits-step rest small big))
-    ∙ whole
-
-pub fill-last : (rest at : ℕ) (out text : List ℕ) → rest < 10 → length (digits rest) ≡ at → 0 < length out → digits rest ++ drop at out ≡ text → set out 0 (48 + rest) ≡ text
-fill-last rest at out text one len some whole =
-    let w = width-one rest one in
-    let e : at ≡ 1 = omega arith in
-    set-split out 0 (48 + rest) some
-    ∙ ap (λ k. (48 + rest) ∷ drop k out) (sym e)
-    ∙ ap (λ xs. xs ++ drop at out) (sym (decimal-digit rest one))
-    ∙ whole
-
-pub value-small-front : (word : List ℕ) (i : ℕ) → Digits 10 (take i word) → length word ≤ 20 → value 10 (take i word) < 10 ^ 20
+pub value-small-front : (word : List ℕ) (i : ℕ) → Digits 10 (take i word) → length word ≤ 20
+    → value 10 (take i word) < 10 ^ 20
 value-small-front word i h short = value-small (take i word) h (simp length-take (omega arith))
 
 digit-value : (b : ℕ) → 48 ≤ b → b ≤ 57 → digitValue b ≡ b - 48
 digit-value b low high = grind (arith, tells)
 
 -- one byte more of a word
-pub read-step : (word : List ℕ) (i n : ℕ) → i < length word → 48 ≤ getD word i 0 → getD word i 0 ≤ 57 → n ≡ value 10 (take i word) → Digits 10 (take i word) → (n * 10 + (getD word i 0 - 48) ≡ value 10 (take (i + 1) word)) × Digits 10 (take (i + 1) word)
+pub read-step : (word : List ℕ) (i n : ℕ) → i < length word → 48 ≤ getD word i 0 → getD word i 0 ≤ 57
+    → n ≡ value 10 (take i word) → Digits 10 (take i word)
+    → (n * 10 + (getD word i 0 - 48) ≡ value 10 (take (i + 1) word)) × Digits 10 (take (i + 1) word)
 read-step word i n inside low high is figures =
     let v : digitValue (getD word i 0) ≡ getD word i 0 - 48 = digit-value (getD word i 0) low high in
     let below : digitValue (getD word i 0) < 10 = omega arith in
     let more = value-more 10 word i inside in
     (omega arith, digits-more 10 word i inside figures below)
 
-pub room-is : (text out : List ℕ) (k : ℕ) → length text ≤ length out → k ≡ length text → Some k ≡ room-for text out
-room-is text out k fits is = ap Some is ∙ sym (cond-true (fits-in text out) (Some (length text)) None (le-leb (length text) (length out) fits))
-
-pub put-is : (text out : List ℕ) (k : ℕ) → length text ≤ length out → k ≡ length text → text ++ drop k out ≡ put-at-start text out
-put-is text out k fits is =
-    ap (λ n. text ++ drop n out) is
-    ∙ sym (cond-true (fits-in text out) (text ++ drop (length text) out) out (le-leb (length text) (length out) fits))
-
-pub read-end : (word : List ℕ) (i n : ℕ) → length word ≤ i → n ≡ value 10 (take i word) → Digits 10 (take i word) → (n ≡ value 10 word) × Digits 10 word
+pub read-end : (word : List ℕ) (i n : ℕ) → length word ≤ i → n ≡ value 10 (take i word) → Digits 10 (take i word)
+    → (n ≡ value 10 word) × Digits 10 word
 read-end word i n past is figures =
     let all = take-all i word past in
     (is ∙ ap (value 10) all, subst (Digits 10) all figures)

@@ -27,7 +27,8 @@ pub mark-short : (f : Format) (mark : Option Label) → length (mark-text f mark
 mark-short f None = lit≤ tt
 mark-short f (Some l) = lit≤ tt
 
-pub line-length : (f : Format) (cue sample : ℕ) (mark : Option Label) → length (line-text f cue sample mark) ≡ length (digits cue) + length (digits sample) + length (mark-text f mark) + 3
+pub line-length : (f : Format) (cue sample : ℕ) (mark : Option Label)
+    → length (line-text f cue sample mark) ≡ length (digits cue) + length (digits sample) + length (mark-text f mark) + 3
 line-length f cue sample mark =
     let a = length-append (digits cue ++ (32 ∷ [])) ((digits sample ++ (32 ∷ [])) ++ (mark-text f mark ++ (10 ∷ []))) in
     let b = length-append (digits sample ++ (32 ∷ [])) (mark-text f mark ++ (10 ∷ [])) in
@@ -50,20 +51,23 @@ first t u v x a b p room h =
     let n = lengths t u v x in
     grow-on [] t a a b p (grew-none a (omega arith)) h (omega arith) .0
 
-pub second : (t u v x : List ℕ) (a b c : TextWriter) (p q : Said) → Room t u v x a → Appends t a b p → Appends u b c q → (q ≡ Ok tt) × Grew (t ++ u) a c
+pub second : (t u v x : List ℕ) (a b c : TextWriter) (p q : Said) → Room t u v x a → Appends t a b p → Appends u b c q
+    → (q ≡ Ok tt) × Grew (t ++ u) a c
 second t u v x a b c p q room h k =
     let n = lengths t u v x in
     let g = two-texts t u a b c p q (omega arith) h k in
     (g .1, g .2)
 
-pub third : (t u v x : List ℕ) (a b c d : TextWriter) (p q r : Said) → Room t u v x a → Appends t a b p → Appends u b c q → Appends v c d r → (r ≡ Ok tt) × Grew ((t ++ u) ++ v) a d
+pub third : (t u v x : List ℕ) (a b c d : TextWriter) (p q r : Said) → Room t u v x a → Appends t a b p
+    → Appends u b c q → Appends v c d r → (r ≡ Ok tt) × Grew ((t ++ u) ++ v) a d
 third t u v x a b c d p q r room h k l =
     let n = lengths t u v x in
     let m = length-append t u in
     let g = second t u v x a b c p q room h k in
     grow-on (t ++ u) v a c d r (g .1) l (omega arith)
 
-pub whole : (t u v x : List ℕ) (a b c d e : TextWriter) (p q r s : Said) → Room t u v x a → Appends t a b p → Appends u b c q → Appends v c d r → Appends x d e s → Appends (t ++ (u ++ (v ++ x))) a e s
+pub whole : (t u v x : List ℕ) (a b c d e : TextWriter) (p q r s : Said) → Room t u v x a → Appends t a b p
+    → Appends u b c q → Appends v c d r → Appends x d e s → Appends (t ++ (u ++ (v ++ x))) a e s
 whole t u v x a b c d e p q r s room h k l m =
     let n = lengths t u v x in
     let i = length-append t u in

@@ -1,4 +1,5 @@
 pub mod Figures
+pub mod Fills
 pub mod Loans
 pub mod Chains
 pub mod Marks

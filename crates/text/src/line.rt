@@ -2,8 +2,8 @@
 ghost use mathlib.Core.Path.{_≡_};
 ghost use mathlib.Core.Bool.{true};
 ghost use lib.ListN.{length};
-ghost use Rattle.text.specs.Lines.{has-mark, mark-text, line-text};
-ghost use Rattle.text.specs.Writer.{Appends, Offered};
+ghost use Rattle.text.specs.Lines.{LineOffered, MarkOffered, has-mark, line-text, mark-text};
+ghost use Rattle.text.specs.Writer.{Appends};
 use crate::decimal::width;
 use crate::writer::TextWriter;
 use forms::label::Label;
@@ -33,7 +33,7 @@ fn mark_width(form: &Labels, label: Option<Label>) -> usize
 
 // A label, or a hyphen for none.
 fn write_mark(w: &mut TextWriter, form: &Labels, label: Option<Label>) -> Result<(), Refusal>
-    ensures { λ r. ⌜ Offered (has-mark (now (form .entry) .format) label) (mark-text (now (form .entry) .format) label) (now (w .entry)) (now (w .exit)) r ⌝ }
+    ensures { λ r. ⌜ MarkOffered (now (form .entry) .format) label (now (w .entry)) (now (w .exit)) r ⌝ }
 {
     match label {
         None => w.byte(HYPHEN),
@@ -69,7 +69,7 @@ pub fn write_line(
     sample: u64,
     label: Option<Label>,
 ) -> Result<(), Refusal>
-    ensures { λ r. ⌜ Offered (has-mark (now (form .entry) .format) label) (line-text (now (form .entry) .format) cue sample label) (now (w .entry)) (now (w .exit)) r ⌝ }
+    ensures { λ r. ⌜ LineOffered (now (form .entry) .format) cue sample label (now (w .entry)) (now (w .exit)) r ⌝ }
 {
     if !has_mark(form, label) {
         return Err(Refusal::NotWritten);

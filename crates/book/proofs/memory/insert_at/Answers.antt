@@ -15,6 +15,7 @@ pub returns : need.returns
 returns g c =
     let xs = c .args .memory .now in
     let long = used xs (c .args .len) (c .min-n .result) (c .min-n .ensures) in
-    record
-    { after = after-insert xs (c .args .len) (c .min-n .result) (c .min-n .ensures) (c .args .i) _ (c .args .x) (omega (arith, long, c .pre)) (omega (arith, long, c .pre)) (c .copy-within .ensures .after)
-    ; same = length-set (c .copy-within .last .self) (c .args .i) (c .args .x) ∙ c .copy-within .ensures .len }
+    record {
+      after = after-insert xs (c .args .len) (c .min-n .result) (c .min-n .ensures) (c .args .i) _ (c .args .x) (omega (arith, long, c .pre)) (omega (arith, long, c .pre)) (c .copy-within .ensures .after);
+      same = length-set (c .copy-within .last .self) (c .args .i) (c .args .x) ∙ c .copy-within .ensures .len;
+    }

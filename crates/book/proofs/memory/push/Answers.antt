@@ -15,6 +15,7 @@ returns g c =
     let xs = c .args .memory .now in
     let n = c .min-n .result in
     let long = used xs (c .args .len) n (c .min-n .ensures) in
-    record
-    { after = take-more-set xs n (c .args .x) (omega (arith, long, c .pre)) ∙ ap (λ ys. ys ++ (c .args .x ∷ [])) (in-use xs (c .args .len) n (c .min-n .ensures))
-    ; same = length-set xs n (c .args .x) }
+    record {
+      after = take-more-set xs n (c .args .x) (omega (arith, long, c .pre)) ∙ ap (λ ys. ys ++ (c .args .x ∷ [])) (in-use xs (c .args .len) n (c .min-n .ensures));
+      same = length-set xs n (c .args .x);
+    }

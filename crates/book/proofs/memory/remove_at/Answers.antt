@@ -24,6 +24,7 @@ pub returns : need.returns
 returns g c =
     let xs = c .args .memory .now in
     let long = used xs (c .args .len) (c .min-n .result) (c .min-n .ensures) in
-    record
-    { after = after-remove xs (c .args .len) (c .min-n .result) (c .min-n .ensures) (c .args .i) _ (omega (arith, long, c .pre)) (c .copy-within .ensures .after)
-    ; same = c .copy-within .ensures .len }
+    record {
+      after = after-remove xs (c .args .len) (c .min-n .result) (c .min-n .ensures) (c .args .i) _ (omega (arith, long, c .pre)) (c .copy-within .ensures .after);
+      same = c .copy-within .ensures .len;
+    }

@@ -15,13 +15,14 @@ returns-in-Add g c =
     let d = c .args .deck .now in
     let w = world-of (g .C·Timebase .meaning) (λ f. label-number (f .format)) (g .L·Timebase .meaning) (g .L·WrittenTimebase .form) d in
     let same : c .label-of-label .result ≡ label-written (d .form .format) (c .in-Add .label .now)
-        = c .label-of-label .ensures .value ∙ ap (λ f. label-written (f .format) (c .in-Add .label .now)) (c .form .ensures) in
+    = c .label-of-label .ensures .value ∙ ap (λ f. label-written (f .format) (c .in-Add .label .now)) (c .form .ensures) in
     subst (λ q. Carried w d (c .add .last .self) (said q) (Answered (c .done .result))) (sym (c .in-Add .is))
     (subst (λ v. Called w d (c .add .last .self) (Add (c .in-Add .number) v) (Answered (c .done .result))) same
-    (record
-        { says = λ calls had. ap Answered (c .done .ensures ∙ ap done-answer (c .add .ensures .says calls had))
-        ; leaves = c .add .ensures .leaves
-        ; keeps = c .add .ensures .keeps }))
+    (record {
+      says = λ calls had. ap Answered (c .done .ensures ∙ ap done-answer (c .add .ensures .says calls had));
+      leaves = c .add .ensures .leaves;
+      keeps = c .add .ensures .keeps;
+    }))
 
 pub returns-in-Locate : need.returns-in-Locate
 returns-in-Locate g c =

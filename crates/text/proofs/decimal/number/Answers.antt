@@ -4,7 +4,7 @@ use lib.ListN.{length, drop}
 use mathlib.Core.Path.{_≡_, sym, ap, _∙_}
 use mathlib.Core.List.{_++_}
 use Rattle.text.specs.Decimal.{digits}
-use Rattle.text.proofs.Figures.{width-one, width-step, fill-step, fill-last, put-is, room-is}
+use Rattle.text.proofs.Fills.{width-one, width-step, fill-step, fill-last, put-is, room-is}
 use Rattle.text.proofs.decimal.number.Needs as need
 
 pub sub-at : need.sub-at
@@ -33,5 +33,7 @@ returns c =
     let w = width-one (c .loop-rest .rest) (c .loop-rest-test .left) in
     let some : 0 < length (c .loop-rest .out) = omega arith in
     let fits : length (digits (c .args .n)) ≤ length (c .args .out .now) = omega arith in
-    let filled = fill-last (c .loop-rest .rest) (c .loop-rest .at) (c .loop-rest .out) _ (c .loop-rest-test .left) (c .loop-rest .inv .0) some (c .loop-rest .inv .3) in
-    record { value = room-is (digits (c .args .n)) (c .args .out .now) (c .width-count .result) fits (c .width-count .ensures); after = filled ∙ put-is (digits (c .args .n)) (c .args .out .now) (c .width-count .result) fits (c .width-count .ensures) }
+    let filled = fill-last (c .loop-rest .rest) (c .loop-rest .at) (c .loop-rest .out) _ (c .loop-rest-test .left)
+    (c .loop-rest .inv .0) some (c .loop-rest .inv .3) in
+    record
+    { value = room-is (digits (c .args .n)) (c .args .out .now) (c .width-count .result) fits (c .width-count .ensures); after = filled ∙ put-is (digits (c .args .n)) (c .args .out .now) (c .width-count .result) fits (c .width-count .ensures) }

@@ -8,7 +8,8 @@ use Rattle.text.proofs.decimal.number.Given as given
 
 abbrev pub Inv-loop-rest : given.InvT-loop-rest
 Inv-loop-rest l =
-    (length (digits (l .rest)) ≡ l .at) × (l .rest < 2 ^ 64) × (l .at ≤ l .count) × (digits (l .rest) ++ drop (l .at) (l .out) ≡ digits (l .n) ++ drop (l .count) (l .entry .out))
+    (length (digits (l .rest)) ≡ l .at) × (l .rest < 2 ^ 64) × (l .at ≤ l .count) ×
+    (digits (l .rest) ++ drop (l .at) (l .out) ≡ digits (l .n) ++ drop (l .count) (l .entry .out))
 
 abbrev pub μ-loop-rest : given.MeasureT-loop-rest
 μ-loop-rest l = l .rest

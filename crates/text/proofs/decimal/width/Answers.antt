@@ -1,5 +1,6 @@
 use native.Mathlib.Omega.{arith}
-use Rattle.text.proofs.Figures.{width-one, width-step, width-most}
+use Rattle.text.proofs.Figures.{width-most}
+use Rattle.text.proofs.Fills.{width-one, width-step}
 use Rattle.text.proofs.decimal.width.Needs as need
 
 pub add-count : need.add-count

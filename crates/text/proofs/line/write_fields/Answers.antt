@@ -37,7 +37,8 @@ returns-then-not-has-room c =
     let f = c .args .form .now .format in
     let n = line-length f (c .args .cue) (c .args .sample) (c .args .label) in
     let short = false-leb _ _ (c .if-not-has-room .ensures tt) in
-    appends-no (line-text f (c .args .cue) (c .args .sample) (c .args .label)) (c .args .w .now) (c .args .w .now) (omega arith) refl refl refl
+    appends-no (line-text f (c .args .cue) (c .args .sample) (c .args .label)) (c .args .w .now) (c .args .w .now)
+    (omega arith) refl refl refl
 
 pub returns-in-Break-number-then : need.returns-in-Break-number-then
 returns-in-Break-number-then c =
@@ -49,7 +50,8 @@ returns-in-Break-number-then c =
     let n = line-length f (c .args .cue) (c .args .sample) (c .args .label) in
     let enough = true-leb _ _ (c .if-not-has-room .ensures tt) in
     let room : w .len + length (t ++ (u ++ (v ++ (10 ∷ [])))) ≤ length (w .out .now) = omega arith in
-    let ok = first t u v (10 ∷ []) w (c .number-then .last .self) (c .number-then .result) room (c .number-then .ensures) in
+    let ok = first t u v (10 ∷ []) w (c .number-then .last .self) (c .number-then .result) room
+    (c .number-then .ensures) in
     not-refused (c .number-then .result) _ ok (c .in-Break-number-then .was tt)
 
 pub returns-in-Break-number-then-2 : need.returns-in-Break-number-then-2
@@ -62,7 +64,8 @@ returns-in-Break-number-then-2 c =
     let n = line-length f (c .args .cue) (c .args .sample) (c .args .label) in
     let enough = true-leb _ _ (c .if-not-has-room .ensures tt) in
     let room : w .len + length (t ++ (u ++ (v ++ (10 ∷ [])))) ≤ length (w .out .now) = omega arith in
-    let ok = second t u v (10 ∷ []) w _ (c .number-then-2 .last .self) _ (c .number-then-2 .result) room (c .number-then .ensures) (c .number-then-2 .ensures) in
+    let ok = second t u v (10 ∷ []) w _ (c .number-then-2 .last .self) _ (c .number-then-2 .result) room
+    (c .number-then .ensures) (c .number-then-2 .ensures) in
     not-refused (c .number-then-2 .result) _ (ok .0) (c .in-Break-number-then-2 .was tt)
 
 pub returns-in-Break-write-mark : need.returns-in-Break-write-mark
@@ -75,7 +78,8 @@ returns-in-Break-write-mark c =
     let n = line-length f (c .args .cue) (c .args .sample) (c .args .label) in
     let enough = true-leb _ _ (c .if-not-has-room .ensures tt) in
     let room : w .len + length (t ++ (u ++ (v ++ (10 ∷ [])))) ≤ length (w .out .now) = omega arith in
-    let ok = third t u v (10 ∷ []) w _ _ (c .write-mark .last .w) _ _ (c .write-mark .result) room (c .number-then .ensures) (c .number-then-2 .ensures) (c .write-mark .ensures .taken (c .pre)) in
+    let ok = third t u v (10 ∷ []) w _ _ (c .write-mark .last .w) _ _ (c .write-mark .result) room
+    (c .number-then .ensures) (c .number-then-2 .ensures) (c .write-mark .ensures .taken (c .pre)) in
     not-refused (c .write-mark .result) _ (ok .0) (c .in-Break-write-mark .was tt)
 
 pub returns : need.returns
@@ -88,4 +92,5 @@ returns c =
     let n = line-length f (c .args .cue) (c .args .sample) (c .args .label) in
     let enough = true-leb _ _ (c .if-not-has-room .ensures tt) in
     let room : w .len + length (t ++ (u ++ (v ++ (10 ∷ [])))) ≤ length (w .out .now) = omega arith in
-    whole t u v (10 ∷ []) w _ _ _ (c .byte .last .self) _ _ _ (c .byte .result) room (c .number-then .ensures) (c .number-then-2 .ensures) (c .write-mark .ensures .taken (c .pre)) (c .byte .ensures)
+    whole t u v (10 ∷ []) w _ _ _ (c .byte .last .self) _ _ _ (c .byte .result) room (c .number-then .ensures)
+    (c .number-then-2 .ensures) (c .write-mark .ensures .taken (c .pre)) (c .byte .ensures)

@@ -38,12 +38,12 @@ returns-in-Err g c =
     let not-in : false ≡ has n (cues (d .book)) = c .if-has .ensures tt in
     refused w d (Add n v) done (c .in-Err .why)
     (λ calls had.
-        let lacks = sym (not-in ∙ ap (has n) (had .cues-are)) in
-        let k = kept-all w calls in
-        ⊎-elim
-        (λ bad. add-bad w (accepted w calls) k n v range lacks (bad .0) ∙ ap Some (sym (bad .1)))
-        (λ past. add-past w (accepted w calls) k n v (past .0) (past .1) range lacks (past .2) ∙ ap Some (sym (past .3)))
-        (at-err (w .number v) (w .cues .len) (c .in-Err .why) (c .in-Err .ensures tt)))
+    let lacks = sym (not-in ∙ ap (has n) (had .cues-are)) in
+    let k = kept-all w calls in
+    ⊎-elim
+    (λ bad. add-bad w (accepted w calls) k n v range lacks (bad .0) ∙ ap Some (sym (bad .1)))
+    (λ past. add-past w (accepted w calls) k n v (past .0) (past .1) range lacks (past .2) ∙ ap Some (sym (past .3)))
+    (at-err (w .number v) (w .cues .len) (c .in-Err .why) (c .in-Err .ensures tt)))
 
 pub returns-then-enter : need.returns-then-enter
 returns-then-enter g c =

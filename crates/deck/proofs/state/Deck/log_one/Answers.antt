@@ -17,10 +17,12 @@ returns-in-rest-line-for g c =
     let x = c .in-Some .cue in
     let found = c .in-Some .ensures tt in
     let past = line-none w x (c .in-rest-line-for .ensures tt) in
-    record
-    { books = refl; heads = refl
-    ; keeps = record { piles = refl; forms = refl; frames = refl; places = refl; lines = refl }
-    ; rows = λ up inside good fits. absurd (let in-pile = good (c .args .i) x (omega arith) (omega arith) in let same = ap (λ y. y .position) (found .1 x) in omega arith) }
+    record {
+      books = refl;
+      heads = refl;
+      keeps = record { piles = refl; forms = refl; frames = refl; places = refl; lines = refl };
+      rows = λ up inside good fits. absurd (let in-pile = good (c .args .i) x (omega arith) (omega arith) in let same = ap (λ y. y .position) (found .1 x) in omega arith);
+    }
 
 pub returns : need.returns
 returns g c =
@@ -30,10 +32,12 @@ returns g c =
     let found = c .in-Some .ensures tt in
     let line = line-some w x (c .in-Some-line-for .line) (c .in-Some-line-for .ensures tt) in
     let row = one-between (cues (d .book)) (c .args .i) x (found .0) ∙ ap (λ y. y ∷ []) (sym (found .1 x)) in
-    record
-    { books = refl; heads = refl
-    ; keeps = record { piles = refl; forms = refl; frames = refl; places = refl; lines = c .append .ensures .room }
-    ; rows = λ up inside good fits.
-        let free : c .append .result ≡ true = c .append .ensures .value ∙ lt-ltb _ _ (omega arith) in
-        c .append .ensures .after ∙ cond-true (c .append .result) _ _ free
-        ∙ ap (λ l. lines (d .log) ++ (l ∷ [])) line ∙ ap (λ ys. lines (d .log) ++ map (line-of w) ys) (sym row) }
+    record {
+      books = refl;
+      heads = refl;
+      keeps = record { piles = refl; forms = refl; frames = refl; places = refl; lines = c .append .ensures .room };
+      rows = λ up inside good fits.
+          let free : c .append .result ≡ true = c .append .ensures .value ∙ lt-ltb _ _ (omega arith) in
+          c .append .ensures .after ∙ cond-true (c .append .result) _ _ free
+          ∙ ap (λ l. lines (d .log) ++ (l ∷ [])) line ∙ ap (λ ys. lines (d .log) ++ map (line-of w) ys) (sym row);
+    }

@@ -14,8 +14,10 @@ returns-in-Ok c =
     let has = sym (c .if-not-has .ensures tt) in
     let some = print-some f l (lent (w .out .now) (w .len)) (c .in-Ok .count) has (c .in-Ok .ensures tt .value) in
     let put = print-put f l (lent (w .out .now) (w .len)) (c .print .last .out) has (c .in-Ok .ensures tt .after) in
-    let d = loan-done (label-text f l) (w .out .now) (c .print .last .out) (w .len) (c .in-Ok .count) (omega arith) some put in
-    offered-taken _ _ _ _ _ has (appends-ok (label-text f l) w _ (d .fits) (d .buffer) (ap (λ k. w .len + k) (d .count)) refl)
+    let d = loan-done (label-text f l) (w .out .now) (c .print .last .out) (w .len) (c .in-Ok .count) (omega arith)
+    some put in
+    offered-taken _ _ _ _ _ has
+    (appends-ok (label-text f l) w _ (d .fits) (d .buffer) (ap (λ k. w .len + k) (d .count)) refl)
 
 pub returns-in-Err : need.returns-in-Err
 returns-in-Err c =

@@ -16,10 +16,13 @@ pub returns-then-not-has-room : need.returns-then-not-has-room
 returns-then-not-has-room c =
     let e = length-append (digits (c .args .n)) (c .args .end ∷ []) in
     let short = false-leb _ _ (c .if-not-has-room .ensures tt) in
-    appends-no (digits (c .args .n) ++ (c .args .end ∷ [])) (c .args .self .now) (c .args .self .now) (omega arith) refl refl refl
+    appends-no (digits (c .args .n) ++ (c .args .end ∷ [])) (c .args .self .now) (c .args .self .now) (omega arith)
+    refl refl refl
 
 pub returns : need.returns
 returns c =
     let room = true-leb _ _ (c .if-not-has-room .ensures tt) in
-    let g = two-texts (digits (c .args .n)) (c .args .end ∷ []) (c .args .self .now) (c .number .last .self) (c .byte .last .self) (c .number .result) (c .byte .result) (omega arith) (c .number .ensures) (c .byte .ensures) in
+    let g = two-texts (digits (c .args .n)) (c .args .end ∷ []) (c .args .self .now) (c .number .last .self)
+    (c .byte .last .self) (c .number .result) (c .byte .result) (omega arith) (c .number .ensures)
+    (c .byte .ensures) in
     grown-whole _ (c .args .self .now) (c .byte .last .self) (c .byte .result) (g .1) (g .2)
