@@ -1,6 +1,6 @@
 /* What crates/label_day must print, by libltc, a timecode library by others (Robin Gareus; Debian's libltc-dev 1.3.2).
  * It steps from label to label by ltc_frame_increment, through one day of each format, and knows nothing of our code:
- *     cc -O2 -o /tmp/label_day tools/label_day.c -lltc && /tmp/label_day > crates/label_day/stdout
+ *     cc -O2 -o label_day tools/label_day.c -lltc && ./label_day > crates/label_day/stdout
  * For each hour: the FNV-1a hash of the labels' texts, and the sum of their numbers, counted from 0.
  * Then 30 drop at some numbers, a number past the day and a text that dropping leaves out. */
 #include <inttypes.h>

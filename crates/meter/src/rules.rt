@@ -15,7 +15,7 @@ fn denominator(dd: u8) -> u32
 }
 
 // The ticks of a bar.
-pub fn bar_ticks(division: u32, row: MeterRow) -> u32
+pub(crate) fn bar_ticks(division: u32, row: MeterRow) -> u32
     requires { ⌜ division ≤ 32767 ⌝ ∗ ⌜ row .nn ≤ 64 ⌝ ∗ ⌜ row .dd ≤ 6 ⌝ }
     ensures { λ r. ⌜ r ≡ bar-of division row ⌝ }
 {
@@ -55,7 +55,7 @@ fn all_kept(division: u32, first: MeterRow, rest: &[MeterRow]) -> bool
 }
 
 // Whether a table of these rows keeps every rule.
-pub fn keeps_rules(division: u32, rows: &[MeterRow]) -> bool
+pub(crate) fn keeps_rules(division: u32, rows: &[MeterRow]) -> bool
     ensures { λ r. ⌜ r ≡ kept division (now (rows .entry)) ⌝ }
 {
     let [first, rest @ ..] = rows else {
