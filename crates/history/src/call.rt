@@ -1,5 +1,5 @@
 // The calls that a deck takes after power-up.
-#[derive(Clone, Copy, PartialEq, Eq, Debug)]
+#[derive(Clone, Copy)]
 pub enum Call<V> {
     Add { number: u64, at: V },
     Strike { number: u64 },
