@@ -5,4 +5,4 @@ mod halving;
 mod memory;
 pub mod pages;
 pub mod record;
-pub mod scan;
+mod scan;
