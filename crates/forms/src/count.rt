@@ -8,7 +8,7 @@ use refusal::Refusal;
 // Positions lie below 2^36.
 const PLAIN_COUNT: u64 = 68_719_476_736;
 
-#[derive(Clone, Copy, PartialEq, Eq, Debug)]
+#[derive(Clone, Copy)]
 pub struct PlainCount;
 
 pub impl WrittenForm for PlainCount as PlainCountForm {

@@ -6,8 +6,6 @@ ghost use Rattle.forms.specs.Formats.{values};
 ghost use Rattle.forms.specs.Labels.{in-range, left-out, valid, dropped-before, added-to, nominal-label, label-number, label-of, no-label, label-parts};
 use crate::form::WrittenForm;
 use crate::format::Format;
-use crate::format::FormatDebug as _;
-use crate::format::FormatPartialEq;
 use refusal::Refusal;
 
 // A label as operators write it; it may be one that no format has.
@@ -63,7 +61,7 @@ impl Label {
 }
 
 // The written form of one format's labels.
-#[derive(Clone, Copy, PartialEq, Eq, Debug)]
+#[derive(Clone, Copy)]
 pub struct Labels {
     pub format: Format,
 }
