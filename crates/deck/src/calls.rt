@@ -1,7 +1,7 @@
 // The calls of a deck that change it.
 ghost use mathlib.Core.Path.{_≡_};
 ghost use mathlib.Core.Bool.{not};
-ghost use Rattle.history.specs.declared.call.Call.the-variants.{Add, Strike, Seek, Play};
+ghost use Rattle.history.specs.declared.call.Call.the-variants.{Add, Strike, Seek};
 ghost use Rattle.history.specs.Accepted.{out-of-range};
 ghost use Rattle.deck.specs.Blocks.{position-of};
 ghost use Rattle.deck.specs.Runs.{world-of, Taken, done};

@@ -4,7 +4,7 @@
 --   crossed    how many numbers a play would cross  numbers-in how many numbers are in
 --   added      how many lines the plays have added  refusal    why a call is refused, if it is
 --   accepted   the accepted calls among all         crossings  how often plays crossed a sample while a number stood there
--- The first four and `added` and `crossings` read accepted calls only. Assumes nothing.
+-- All but `accepted` read accepted calls only. Assumes nothing.
 use mathlib.Core.List.{List, [], _∷_}
 use mathlib.Core.Bool.{Bool, true, false, cond, not, _&&_, _||_}
 use Prim.Native.Nat.{ℕ, _+_, _-_, _^_}

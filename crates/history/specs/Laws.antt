@@ -9,7 +9,7 @@ use mathlib.Core.Bool.{Bool, _&&_}
 use Prim.Native.Nat.{ℕ, _+_}
 use lib.Dec.{eqb}
 use lib.ListN.{length}
-use Rattle.std.specs.shelf.Lists.{All, kept-by, sum}
+use Rattle.std.specs.shelf.Lists.{kept-by, sum}
 use Rattle.std.specs.declared.option.Option.{Option}
 use Rattle.std.specs.declared.option.Option.the-variants.{Some, None}
 use Rattle.std.specs.declared.result.Result.{Result}
@@ -18,7 +18,6 @@ use Rattle.refusal.specs.declared.Refusal.{Refusal}
 use Rattle.timebase.specs.Meaning.{Sound}
 use Rattle.book.specs.declared.cue.Cue.{Cue}
 use Rattle.book.specs.declared.cue.Line.{Line}
-use Rattle.book.specs.Cues.{Rising}
 use Rattle.history.specs.declared.call.Call.{Call}
 use Rattle.history.specs.declared.call.Call.the-variants.{Add, Strike, Seek, Play}
 use Rattle.history.specs.World.{World}

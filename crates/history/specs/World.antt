@@ -5,7 +5,6 @@
 --   places   how many cues the book may hold      lines   how many lines the log may hold
 -- Assumes nothing.
 use Prim.Native.Nat.{ℕ}
-use Rattle.std.specs.Options.{mapped}
 use Rattle.std.specs.Results.{okPart}
 use Rattle.std.specs.declared.option.Option.{Option}
 use Rattle.std.specs.declared.option.Option.the-variants.{Some, None}

@@ -3,7 +3,7 @@
 --   Ahead         g is never below its argument
 --   on-samples    the meaning of a layer that changes samples by g: it ends where a result passes the last sample
 --   checked       what such a layer makes of the lower timebase's sample: refused where the result passes the last sample
---   on-positions  the meaning of a layer that changes positions by g: it ends where a result passes the lower length
+--   on-positions  the meaning of a layer that changes positions by g: it ends where a result reaches the lower length
 --   delay-refusal, varispeed-refusal, start-refusal   what making a layer is refused by
 --   delayed, slid               delay by k: s + k, and back
 --   scaled, reached             varispeed, in the timebase crate: s × a ÷ b rounded up, and back

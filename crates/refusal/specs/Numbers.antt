@@ -6,7 +6,7 @@ use Rattle.refusal.specs.declared.Refusal.{Refusal}
 use Rattle.refusal.specs.declared.Refusal.the-variants.{ShortBuffer, BadMaking, RatioTooLong, NoPosition, NotWritten, NotBelowCount, CueOutOfRange, CueAlreadyIn, NoFreePlace, CueNotIn, HeadPastEnd, NoFreeLines}
 
 abbrev pub number-of : Refusal → ℕ
--- a text buffer is under eleven bytes
+-- a text does not fit the buffer that it is to be written into
 number-of ShortBuffer = 6
 -- a number handed to a base or a layer is out of its range, or a meter table is against its rules
 number-of BadMaking = 14

@@ -1,6 +1,9 @@
 // One request carried out on a deck whose cues are written as timecode labels.
 ghost use mathlib.Core.Path.{_≡_};
 ghost use Rattle.forms.specs.Labels.{label-number};
+ghost use Rattle.forms.specs.declared.label.Label.{Label};
+ghost use Rattle.layers.specs.Piles.{Place-and-locate-agree};
+ghost use Rattle.history.specs.Laws.{Every-crossing-is-logged-once, A-play-answers-its-lines, Cutting-a-play-shows-nowhere};
 ghost use Rattle.deck.specs.Runs.{world-of};
 ghost use Rattle.operator.specs.Requests.{said};
 ghost use Rattle.session.specs.Replies.{Carried, done-answer, lines-answer, placed-answer};
@@ -47,7 +50,8 @@ fn placed(result: Result<u64, Refusal>) -> Answer
     }
 }
 
-pub fn carry_out<C: Timebase, L: WrittenTimebase>(
+// What one request does to the deck.
+fn carry<C: Timebase, L: WrittenTimebase>(
     deck: &mut Deck<'_, C, Labels, L>,
     request: Request<'_>,
 ) -> Reply
@@ -66,4 +70,18 @@ pub fn carry_out<C: Timebase, L: WrittenTimebase>(
         Request::Log => Reply::Listing,
         Request::Unreadable => Reply::Answered(Answer::Unreadable),
     }
+}
+
+// One request carried out, under the laws of the deck and of its piles.
+pub fn carry_out<C: Timebase, L: WrittenTimebase>(
+    deck: &mut Deck<'_, C, Labels, L>,
+    request: Request<'_>,
+) -> Reply
+    ensures carried { λ r. ⌜ Carried (world-of (C·Timebase .meaning) (λ f. label-number (f .format)) (L·Timebase .meaning) (L·WrittenTimebase .form) (now (deck .entry))) (now (deck .entry)) (now (deck .exit)) (said (request .entry)) r ⌝ }
+    ensures agree { λ _. ⌜ Place-and-locate-agree ⌝ }
+    ensures once { λ _. ⌜ Every-crossing-is-logged-once Label L·Shown ⌝ }
+    ensures counts { λ _. ⌜ A-play-answers-its-lines Label L·Shown ⌝ }
+    ensures cutting { λ _. ⌜ Cutting-a-play-shows-nowhere Label L·Shown ⌝ }
+{
+    carry(deck, request)
 }

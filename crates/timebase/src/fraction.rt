@@ -33,14 +33,14 @@ impl Fraction {
         Some(Fraction { n, d })
     }
 
-    // x × n ÷ d rounded up.
+    // x × n ÷ d rounded up; an x past 2^36 counts as 2^36.
     pub fn up(&self, x: u64) -> u64
         ensures { λ r. ⌜ r ≡ scaled (now (self .entry) .n) (now (self .entry) .d) (min x (2 ^ 36)) ⌝ }
     {
         (x.min(TOP) * self.n + (self.d - 1)) / self.d
     }
 
-    // The least x whose `up` is at least s.
+    // The least x whose `up` is at least s; an s past 2^36 counts as 2^36.
     pub fn reach(&self, s: u64) -> u64
         ensures { λ r. ⌜ r ≡ reached (now (self .entry) .n) (now (self .entry) .d) (min s (2 ^ 36)) ⌝ }
     {
