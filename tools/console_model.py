@@ -1,6 +1,6 @@
 #!/usr/bin/env python3
-"""A plain model of the console, written from docs/ alone and sharing no code with it: exact fractions, a dictionary for
-the book, no halving. `console_model.py < script` prints what the console must print; `console_model.py --make N SEED`
+"""A plain model of the console by the rules in docs/, sharing no code with it: exact fractions, a dictionary for the
+book, no halving. `console_model.py < script` prints what the console must print; `console_model.py --make N SEED`
 prints a script of N lines, good and damaged. crates/console/stdout was made with it."""
 import random
 import re
