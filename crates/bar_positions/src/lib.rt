@@ -1,4 +1,6 @@
 // Bar positions: positions in ticks written as bar, beat and tick of a meter table.
+#![tactic(auto)]
+
 mod parts;
 pub mod position;
 pub mod spelling;

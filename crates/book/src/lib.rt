@@ -1,4 +1,6 @@
 // The cue book and the log, over memory that the host lends.
+#![tactic(auto)]
+
 pub mod cue;
 pub mod edits;
 mod halving;

@@ -1,4 +1,6 @@
 // Operators' calls on standard input, one a line, and the answer to each on standard output.
+#![tactic(auto)]
+
 use book::cue::{Cue, Line};
 use deck::state::Deck;
 use forms::format::Format;

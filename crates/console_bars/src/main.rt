@@ -1,4 +1,6 @@
 // The console, run with the set-up of bars.
+#![tactic(auto)]
+
 use setups::console::console;
 use std::io;
 

@@ -1,4 +1,6 @@
 // The console, run with the set-up of film.
+#![tactic(auto)]
+
 use setups::console::console;
 use std::io;
 

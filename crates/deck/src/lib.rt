@@ -1,4 +1,6 @@
 // The deck: a cue book, a log and a head over any pile for the cues and any written timebase for the log.
+#![tactic(auto)]
+
 pub mod calls;
 pub mod finding;
 pub mod playing;

@@ -1,4 +1,6 @@
 // Written forms: how operators write positions.
+#![tactic(auto)]
+
 pub mod count;
 pub mod form;
 pub mod format;

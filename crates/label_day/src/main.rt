@@ -1,5 +1,7 @@
 // Writes and reads back every label of a day in every format, and prints what an outside timecode library is asked for too:
 // for each hour a hash of the labels' texts and the sum of their numbers; then some positions by hand.
+#![tactic(auto)]
+
 use forms::form::WrittenForm;
 use forms::format::Format;
 use forms::label::Labels;

@@ -1,4 +1,6 @@
 // Layers: each stands on any timebase and is a timebase again.
+#![tactic(auto)]
+
 pub mod delay;
 pub mod on_positions;
 pub mod on_samples;

@@ -1,4 +1,6 @@
 // Meter: the table of meters of a show, the ticks at which its bars begin, and bars as a timebase.
+#![tactic(auto)]
+
 pub mod bars;
 pub mod row;
 mod rules;

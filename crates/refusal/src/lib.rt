@@ -1,4 +1,6 @@
 // Every refusal of the engine, one case for each cause, and the number that is answered for it.
+#![tactic(auto)]
+
 ghost use Rattle.std.specs.Prelude.{◌≡◌};
 ghost use Rattle.refusal.specs.Numbers.{number_of};
 

@@ -1,2 +1,4 @@
 // Operators' requests carried out on a deck.
+#![tactic(auto)]
+
 pub mod carry;

@@ -1,4 +1,6 @@
 // Tempo: a tempo map as a timebase, whose positions are ticks.
+#![tactic(auto)]
+
 pub mod base;
 pub mod map;
 pub mod rates;

@@ -1,5 +1,7 @@
 // Places ticks by many tempo maps and prints what an outside MIDI file library is asked for too: for each map and sample
 // rate the samples of some ticks, then of all a hash with their tempos, and the sum; then maps at the edges of the rules.
+#![tactic(auto)]
+
 use crate::edges::edges;
 use crate::plans::{PLANS, Plan};
 use crate::tries::all_tried;

@@ -1,4 +1,6 @@
 // Positions worked out by hand, on each layer alone and on a pile of all five.
+#![tactic(auto)]
+
 use layers::delay::Delay;
 use layers::pulldown::PullDown;
 use layers::start::Start;
