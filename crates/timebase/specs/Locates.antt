@@ -6,11 +6,11 @@
 --   least_capped    what is past the last sample is reached no earlier than the sample after it
 --   least_from      an answer that parts the positions below the length is the least
 -- Assumes nothing.
-use Rattle.std.specs.Prelude.{◌≡◌, ℕ, ◌^◌, ◌<◌, ◌≤◌, min, Bool, true, false, ◌⊎◌, nat_lt, refl}
-use Rattle.std.proofs.Common.{◌∙◌, inl, inr, le_trans, arith}
-use Rattle.std.proofs.lemmas.Bool.{cases_lt, ltb-true, ltb-false, lt-ltb, le-ltb}
-use Rattle.timebase.specs.Meaning.{Meaning, Sound, Least, Agree, tally, located}
-use Rattle.timebase.specs.Tally.{Cut, Falls, tally_cuts}
+use Rattle.std.specs.Prelude.{◌≡◌, ℕ, ◌^◌, ◌<◌, ◌≤◌, min, Bool, nat_lt}
+use Rattle.std.proofs.Common.{inl, inr, arith}
+use Rattle.std.proofs.lemmas.Bool.{cases_lt, ltb-true, ltb-false, lt-ltb}
+use Rattle.timebase.specs.Meaning.{Meaning, Sound, Least, Agree, located}
+use Rattle.timebase.specs.Tally.{Falls, tally_cuts}
 
 pub least_agrees : (m : Meaning) → Sound m → (s r : ℕ) → Least m s r → Agree m s r
 least_agrees m sound s r least p inside = (

@@ -3,7 +3,7 @@
 --   ratio_sound   its meaning is sound
 --   ratio_least   the least argument that reaches, cut at the length, is what locate answers
 -- Assumes nothing.
-use Rattle.std.specs.Prelude.{◌≡◌, ℕ, ◌-◌, ◌^◌, ◌<◌, ◌≤◌, min, refl}
+use Rattle.std.specs.Prelude.{ℕ, ◌-◌, ◌^◌, ◌<◌, ◌≤◌, min}
 use Rattle.std.proofs.Common.{arith}
 use Rattle.timebase.specs.Meaning.{Sound, Least, last_sample}
 use Rattle.timebase.specs.Scale.{scaled, reached}

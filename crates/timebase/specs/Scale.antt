@@ -3,7 +3,7 @@
 --   reached   the least x with scaled x at least s
 --   in_range  n and d are from 1 to the most that is allowed
 -- Assumes nothing.
-use Rattle.std.specs.Prelude.{ℕ, ◌+◌, ◌-◌, ◌*◌, ◌/◌, ◌^◌, min, Bool, cond, ◌&&◌, ◌==◌, nat_le}
+use Rattle.std.specs.Prelude.{ℕ, ◌+◌, ◌-◌, ◌*◌, ◌/◌, Bool, cond, ◌&&◌, ◌==◌, nat_le}
 
 abbrev pub scaled : ℕ → ℕ → ℕ → ℕ
 scaled n d x = (x * n + (d - 1)) / d

@@ -3,9 +3,9 @@
 --   scaled_rises     scaling never falls
 --   small_product    a product of what a fraction multiplies fits
 -- Assumes nothing.
-use Rattle.std.specs.Prelude.{◌≡◌, ℕ, zero, suc, ◌+◌, ◌-◌, ◌*◌, ◌/◌, ◌^◌, ◌<◌, ◌≤◌, true, false, cond, ◌⊎◌, ◌==◌, refl}
-use Rattle.std.proofs.Common.{sym, ap, ◌∙◌, inl, inr, zero-le, mul-le-mul, suc-mul, div-lt_iff_lt-mul, le-div_iff_mul-le, arith}
-use Rattle.std.proofs.lemmas.Bool.{cases_lt, eq-eqb, ne_eqb, cond-true, cond-false}
+use Rattle.std.specs.Prelude.{◌≡◌, ℕ, zero, suc, ◌+◌, ◌-◌, ◌*◌, ◌/◌, ◌^◌, ◌<◌, ◌≤◌, ◌==◌}
+use Rattle.std.proofs.Common.{ap, ◌∙◌, zero-le, mul-le-mul, suc-mul, div-lt_iff_lt-mul, le-div_iff_mul-le, arith}
+use Rattle.std.proofs.lemmas.Bool.{ne_eqb, cond-false}
 use Rattle.timebase.specs.Scale.{scaled, reached}
 
 pub small_product : (a b : ℕ) → a ≤ 2 ^ 36 → b ≤ 2 ^ 27 → a * b ≤ 2 ^ 63

@@ -1,4 +1,4 @@
-use Rattle.std.proofs.Common.{◌≡◌, ℕ, ◌^◌, min, sym, refl, ap, ◌∙◌, subst}
+use Rattle.std.proofs.Common.{◌≡◌, ◌^◌, min}
 use Rattle.timebase.specs.Meaning.{Least}
 use Rattle.timebase.specs.Scale.{reached}
 use Rattle.timebase.specs.Ratio.{ratio_meaning}

@@ -1,4 +1,4 @@
-use Rattle.std.proofs.Common.{◌≡◌, ℕ, ◌-◌, ◌^◌, ◌<◌, ◌≤◌, min, ap, arith}
+use Rattle.std.proofs.Common.{◌≡◌, ◌-◌, ◌^◌, ◌<◌, ◌≤◌, min, ap, arith}
 use Rattle.timebase.specs.Scale.{scaled}
 use Rattle.timebase.specs.Ratios.{ratio_within}
 use Rattle.timebase.proofs.ratio.Ratio.new.Goals as goal
