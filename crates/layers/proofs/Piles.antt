@@ -4,14 +4,14 @@
 --   answers_agree    what answers agrees
 --   piles_agree      the law, by induction over the list
 -- Assumes nothing.
-use Rattle.std.proofs.Common.{◌≡◌, ℕ, ◌^◌, ◌<◌, ◌≤◌, min, true, ◌&&◌, leb, ◌⊎◌, List, [], ◌∷◌, Ok, Result, sym, refl, ap, ◌∙◌, inl, inr, arith}
+use Rattle.std.proofs.Common.{◌≡◌, ℕ, ◌^◌, ◌<◌, min, true, ◌&&◌, leb, List, [], ◌∷◌, Result, ◌∙◌, inl, inr, arith}
 use Rattle.std.proofs.lemmas.Bool.{cases_lt, leb-true, and_parts}
 use Rattle.refusal.specs.declared.Refusal.{Refusal}
-use Rattle.timebase.specs.Meaning.{Meaning, Sound, Least, Agree, placed}
-use Rattle.timebase.specs.Scale.{scaled, reached, in_range}
+use Rattle.timebase.specs.Meaning.{Meaning}
+use Rattle.timebase.specs.Scale.{in_range}
 use Rattle.timebase.specs.Locates.{least_agrees}
 use Rattle.layers.specs.Layers.{Pair, Ahead}
-use Rattle.layers.specs.Piles.{Layer, delay, varispeed, start, pulldown, bars, Fits, AllFit, Change, samples, positions, change, layered, asks_locate, asks_place, piled, located_through, placed_through, Answers, Agreement, Piled, PlaceAndLocateAgree}
+use Rattle.layers.specs.Piles.{Layer, delay, varispeed, start, pulldown, bars, Fits, AllFit, Change, samples, positions, change, layered, asks_locate, asks_place, piled, located_through, placed_through, Answers, Agreement, PlaceAndLocateAgree}
 use Rattle.layers.specs.Changes.{placed_below, placed_past}
 use Rattle.layers.specs.Samples.{samples_sound, samples_least, samples_placed}
 use Rattle.layers.specs.Positions.{positions_sound, positions_least, positions_placed}

@@ -1,6 +1,6 @@
 -- The pairs of the four layers: each g with its least argument that reaches.
 -- Assumes nothing.
-use Rattle.std.specs.Prelude.{ℕ, ◌+◌, ◌-◌, ◌*◌, ◌/◌, ◌<◌, ◌≤◌}
+use Rattle.std.specs.Prelude.{ℕ, ◌<◌}
 use Rattle.std.proofs.Common.{arith}
 use Rattle.timebase.specs.Scale.{scaled, reached}
 use Rattle.timebase.specs.Scales.{scaled_reached}

@@ -6,11 +6,11 @@
 --   positions_placed  placing the changed position below places
 --   positions_far     past 2^36 nothing is placed
 -- Assumes nothing.
-use Rattle.std.specs.Prelude.{◌≡◌, ℕ, ◌+◌, ◌^◌, ◌<◌, ◌≤◌, Bool, true, false, cond, ◌⊎◌, Ok, Err, nat_lt, refl}
-use Rattle.std.proofs.Common.{sym, ap, ◌∙◌, inl, inr, arith}
-use Rattle.std.proofs.lemmas.Bool.{cases_lt, lt-ltb, le-ltb, cond-true, cond-false}
+use Rattle.std.specs.Prelude.{◌≡◌, ℕ, ◌^◌, ◌<◌, ◌≤◌, Bool, Err, nat_lt}
+use Rattle.std.proofs.Common.{sym, ◌∙◌, inl, inr, arith}
+use Rattle.std.proofs.lemmas.Bool.{cases_lt, lt-ltb, le-ltb}
 use Rattle.refusal.specs.declared.Refusal.TheVariants.{NoPosition}
-use Rattle.timebase.specs.Meaning.{Meaning, Sound, Least, Agree, placed, tally}
+use Rattle.timebase.specs.Meaning.{Meaning, Sound, Least, Agree, placed}
 use Rattle.timebase.specs.Tally.{Cut, tally_cut}
 use Rattle.timebase.specs.Locates.{least_agrees}
 use Rattle.layers.specs.Layers.{Pair, Ahead, on_positions}

@@ -6,12 +6,12 @@
 --   samples_agree    so place and locate agree
 --   samples_placed   placing below, then changing and checking the sample, places
 -- Assumes nothing.
-use Rattle.std.specs.Prelude.{◌≡◌, ℕ, ◌+◌, ◌^◌, ◌<◌, ◌≤◌, min, Bool, true, false, cond, leb, ◌⊎◌, Ok, Err, Result, nat_le, refl}
+use Rattle.std.specs.Prelude.{◌≡◌, ℕ, ◌^◌, ◌<◌, ◌≤◌, min, Bool, leb, Ok, Err, Result, nat_le}
 use Rattle.std.proofs.Common.{sym, ap, ◌∙◌, inl, inr, arith}
-use Rattle.std.proofs.lemmas.Bool.{cases_lt, leb-true, leb-false, le-leb, lt-leb, lt-ltb, le-ltb, both_ways, cond-true, cond-false}
+use Rattle.std.proofs.lemmas.Bool.{cases_lt, leb-true, le-leb, lt-leb, both_ways, cond-true, cond-false}
 use Rattle.refusal.specs.declared.Refusal.{Refusal}
 use Rattle.refusal.specs.declared.Refusal.TheVariants.{NoPosition}
-use Rattle.timebase.specs.Meaning.{Meaning, Sound, Least, Agree, placed, last_sample, tally}
+use Rattle.timebase.specs.Meaning.{Meaning, Sound, Least, Agree, placed, last_sample}
 use Rattle.timebase.specs.Tally.{Cut, Falls, tally_cuts}
 use Rattle.timebase.specs.Locates.{least_agrees, least_capped, least_unique}
 use Rattle.layers.specs.Layers.{Pair, on_samples, checked}

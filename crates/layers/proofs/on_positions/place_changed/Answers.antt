@@ -3,8 +3,8 @@ use Rattle.timebase.specs.Meaning.{placed}
 use Rattle.layers.specs.Positions.{positions_placed, positions_far}
 use Rattle.layers.proofs.on_positions.place_changed.Goals as goal
 
-pub returns-then-p-gt-LAST-SAMPLE : goal.returns-then-p-gt-LAST-SAMPLE
-returns-then-p-gt-LAST-SAMPLE g c =
+pub returns-then-p-gt-LAST_SAMPLE : goal.returns-then-p-gt-LAST_SAMPLE
+returns-then-p-gt-LAST_SAMPLE g c =
     let map = c.args.map.now in
     let G = g.G.PositionMap in
     let sound = g.met.T.Timebase.sound c.args.lower.now in

@@ -1,4 +1,4 @@
-use Rattle.std.proofs.Common.{◌≡◌, ◌^◌, min, sym, ap, arith}
+use Rattle.std.proofs.Common.{◌≡◌, ◌^◌, min, sym, arith}
 use Rattle.timebase.specs.Meaning.{Least}
 use Rattle.layers.specs.Samples.{samples_least, samples_agree, samples_length}
 use Rattle.layers.proofs.on_samples.located.Goals as goal

@@ -3,9 +3,9 @@ use Rattle.written.proofs.Shows.{stands_past, stands_edge, stands_inside}
 use Rattle.written.proofs.base.standing_at.Goals as goal
 use Rattle.written.proofs.base.standing_at.Goals.{then-next-eq0-via-then-next-eq0, then-next-eq0-via-else-next-eq0+then-next-len}
 
-pub returns-then-s-gt-LAST-SAMPLE : goal.returns-then-s-gt-LAST-SAMPLE
-returns-then-s-gt-LAST-SAMPLE g c =
-    stands_past _ _ (g.met.T.Timebase.sound _) c.if-s-gt-LAST-SAMPLE.true
+pub returns-then-s-gt-LAST_SAMPLE : goal.returns-then-s-gt-LAST_SAMPLE
+returns-then-s-gt-LAST_SAMPLE g c =
+    stands_past _ _ (g.met.T.Timebase.sound _) c.if-s-gt-LAST_SAMPLE.true
 
 pub returns-then-next-eq0 : goal.returns-then-next-eq0
 returns-then-next-eq0 g c =

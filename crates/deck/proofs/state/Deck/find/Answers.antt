@@ -8,8 +8,8 @@ use Rattle.deck.specs.Runs.{world-of}
 use Rattle.deck.proofs.Sought.{first_found, none_found, none_past}
 use Rattle.deck.proofs.state.Deck.find.Goals as goal
 
-pub returns-then-sample-gt-LAST-SAMPLE : goal.returns-then-sample-gt-LAST-SAMPLE
-returns-then-sample-gt-LAST-SAMPLE g c =
+pub returns-then-sample-gt-LAST_SAMPLE : goal.returns-then-sample-gt-LAST_SAMPLE
+returns-then-sample-gt-LAST_SAMPLE g c =
     let d = c.args.self.now in
     let w = world-of g.C.Timebase.meaning g.F.WrittenForm.number g.L.Timebase.meaning g.L.WrittenTimebase.form d in
     λ calls had. none_past w (accepted w calls) (kept_all w calls) c.args.sample (g.met.C.Timebase.sound d.pile) (omega arith)

@@ -25,28 +25,28 @@ returns-in-err-part c =
     let none = c.in-err-part.ensures in
     let t = told_refused c.args.self.now.format c.args.text.now (Err NotWritten) refl
     (λ l s. none l.hours s.parts.hours_are) in
-    rw c.from-residual.ensures (record { value = t.value; cases = t.cases })
+    rw c.from_residual.ensures (record { value = t.value; cases = t.cases })
 
 pub returns-in-err-part-2 : goal.returns-in-err-part-2
 returns-in-err-part-2 c =
     let none = c.in-err-part-2.ensures in
     let t = told_refused c.args.self.now.format c.args.text.now (Err NotWritten) refl
     (λ l s. none l.minutes s.parts.minutes_are) in
-    rw c.from-residual-in-err-part-2.ensures (record { value = t.value; cases = t.cases })
+    rw c.from_residual-in-err-part-2.ensures (record { value = t.value; cases = t.cases })
 
 pub returns-in-err-part-3 : goal.returns-in-err-part-3
 returns-in-err-part-3 c =
     let none = c.in-err-part-3.ensures in
     let t = told_refused c.args.self.now.format c.args.text.now (Err NotWritten) refl
     (λ l s. none l.seconds s.parts.seconds_are) in
-    rw c.from-residual-in-err-part-3.ensures (record { value = t.value; cases = t.cases })
+    rw c.from_residual-in-err-part-3.ensures (record { value = t.value; cases = t.cases })
 
 pub returns-in-err-part-4 : goal.returns-in-err-part-4
 returns-in-err-part-4 c =
     let none = c.in-err-part-4.ensures in
     let t = told_refused c.args.self.now.format c.args.text.now (Err NotWritten) refl
     (λ l s. none l.frames s.parts.frames_are) in
-    rw c.from-residual-in-err-part-4.ensures (record { value = t.value; cases = t.cases })
+    rw c.from_residual-in-err-part-4.ensures (record { value = t.value; cases = t.cases })
 
 pub returns-then-separates : goal.returns-then-separates
 returns-then-separates c =

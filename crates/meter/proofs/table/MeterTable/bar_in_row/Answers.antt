@@ -16,8 +16,8 @@ pub div-ceil-requires : goal.div-ceil-requires
 div-ceil-requires c =
     omega (arith, (row_facts c.args.self.now c.args.i c.requires.there).bar)
 
-pub overflow-add-result : goal.overflow-add-result
-overflow-add-result c =
+pub overflow_add-result : goal.overflow_add-result
+overflow_add-result c =
     omega (
       arith,
       tick_fits c.args.self.now c.args.i c.args.t c.bar-ticks-bar.result c.div-ceil.result

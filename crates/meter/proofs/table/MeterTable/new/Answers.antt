@@ -7,8 +7,8 @@ use Rattle.meter.proofs.table.MeterTable.new.Goals as goal
 pub copy-rows-requires : goal.copy-rows-requires
 copy-rows-requires c = few_rows c.args.division c.args.rows.now (sym c.if-not-keeps-rules.ensures)
 
-pub invariant-of-result : goal.invariant-of-result
-invariant-of-result c =
+pub invariant_of-result : goal.invariant_of-result
+invariant_of-result c =
     let k : kept c.args.division c.args.rows.now ≡ true = sym c.if-not-keeps-rules.ensures in (
       few_rows c.args.division c.args.rows.now k,
       (

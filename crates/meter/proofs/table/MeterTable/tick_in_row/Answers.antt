@@ -11,16 +11,16 @@ bar-ticks-bar-requires c =
     row_facts c.args.self.now c.args.i c.requires.0.there in
     (f.high, (f.few_beats, f.note))
 
-pub overflow-mul-result : goal.overflow-mul-result
-overflow-mul-result c =
+pub overflow_mul-result : goal.overflow_mul-result
+overflow_mul-result c =
     omega (
       arith,
       bar_fits c.args.self.now c.args.i c.args.p c.bar-ticks-bar.result
           c.requires.0 c.requires.1 c.bar-ticks-bar.ensures,
     )
 
-pub overflow-add-result : goal.overflow-add-result
-overflow-add-result c =
+pub overflow_add-result : goal.overflow_add-result
+overflow_add-result c =
     let f : RowFacts c.args.self.now c.args.i =
     row_facts c.args.self.now c.args.i c.requires.0.there in
     omega (

@@ -4,8 +4,8 @@ use Rattle.meter.specs.Whole.{Placed, placed_at, linked_at}
 use Rattle.meter.proofs.Counting.{next_fits, counted_on}
 use Rattle.meter.proofs.table.making.count_bars.Goals as goal
 
-pub overflow-sub-gap : goal.overflow-sub-gap
-overflow-sub-gap c = omega (arith, (linked_at c.args.division c.args.rows.now c.loop-i.i c.requires (omega arith)).later)
+pub overflow_sub-gap : goal.overflow_sub-gap
+overflow_sub-gap c = omega (arith, (linked_at c.args.division c.args.rows.now c.loop-i.i c.requires (omega arith)).later)
 
 pub bar-ticks-requires : goal.bar-ticks-requires
 bar-ticks-requires c =
@@ -13,11 +13,11 @@ bar-ticks-requires c =
     placed_at c.args.division c.args.rows.now c.loop-i.i c.requires (omega arith) in
     (p.high, (p.range.few_beats, p.range.note))
 
-pub nonzero-div-gap : goal.nonzero-div-gap
-nonzero-div-gap c = omega (arith, (placed_at c.args.division c.args.rows.now c.loop-i.i c.requires (omega arith)).bar)
+pub nonzero_div-gap : goal.nonzero_div-gap
+nonzero_div-gap c = omega (arith, (placed_at c.args.division c.args.rows.now c.loop-i.i c.requires (omega arith)).bar)
 
-pub overflow-add-before : goal.overflow-add-before
-overflow-add-before c =
+pub overflow_add-before : goal.overflow_add-before
+overflow_add-before c =
     omega (
       arith,
       next_fits c.args.division c.args.rows.now c.loop-i.before c.loop-i.i c.bar-ticks.result
