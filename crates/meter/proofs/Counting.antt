@@ -6,7 +6,7 @@ use Rattle.std.proofs.lemmas.List.{get_or-set_same, get_or-set_other}
 use Rattle.meter.specs.Rules.{bar_of, kept}
 use Rattle.meter.specs.BarLines.{no_row, bars_before}
 use Rattle.meter.specs.declared.row.MeterRow.{MeterRow}
-use Rattle.meter.specs.Whole.{Placed, placed_at, Linked, linked_at}
+use Rattle.meter.specs.Whole.{Placed, placed_at, linked_at}
 
 abbrev pub Counted : ℕ → List MeterRow → List ℕ → ℕ → Type 0
 Counted d rows before n = (k : ℕ) → k < n → get_or before k 0 ≡ bars_before d rows k

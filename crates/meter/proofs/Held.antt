@@ -1,9 +1,9 @@
 -- What a meter table holds: its rows are lawful, and the looked-up row gives the bar or the tick.
 -- Assumes nothing.
-use Rattle.std.proofs.Common.{◌≡◌, ℕ, ◌+◌, ◌-◌, ◌*◌, ◌<◌, ◌≤◌, true, List, length, get_or, take, sym, ap, ◌∙◌, subst, arith}
+use Rattle.std.proofs.Common.{◌≡◌, ℕ, ◌+◌, ◌-◌, ◌*◌, ◌<◌, ◌≤◌, length, get_or, sym, ap, ◌∙◌, subst, arith}
 use Rattle.std.proofs.lemmas.List.{get_or-take}
-use Rattle.meter.specs.Rules.{bar_of, kept}
-use Rattle.meter.specs.BarLines.{no_row, bar_start, bars_before, row_at, FirstAt}
+use Rattle.meter.specs.Rules.{bar_of}
+use Rattle.meter.specs.BarLines.{no_row, bars_before, row_at, FirstAt}
 use Rattle.meter.specs.Tables.{rows_of, bar_tick}
 use Rattle.meter.specs.Lies.{BarIn, TickIn}
 use Rattle.meter.specs.declared.row.MeterRow.{MeterRow}

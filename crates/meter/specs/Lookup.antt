@@ -4,10 +4,9 @@ use Rattle.std.specs.Prelude.{◌≡◌, ℕ, zero, suc, ◌+◌, ◌-◌, ◌*�
 use Rattle.std.proofs.Common.{sym, ◌∙◌, ap, subst, inl, inr, arith, mul-le-mul_left, mul-le-mul_right, mul-lt-mul_of_pos_right, add-mul, zero-add}
 use Rattle.std.proofs.lemmas.Nat.{div-add-mod', mod_below}
 use Rattle.std.proofs.lemmas.Bool.{cases_lt}
-use Rattle.meter.specs.Rules.{bar_of, row_kept, all_kept}
+use Rattle.meter.specs.Rules.{bar_of, all_kept}
 use Rattle.meter.specs.BarLines.{no_row, gap_of, bar_from, bars_from, FirstAt}
 use Rattle.meter.specs.declared.row.MeterRow.{MeterRow}
-use Rattle.meter.specs.Ranges.{bar_pos}
 use Rattle.meter.specs.Stretch.{Link, Parts, parts, inside, past}
 use Rattle.meter.specs.Rising.{starts}
 use Rattle.meter.specs.Places.{bars_le}

@@ -1,8 +1,8 @@
 -- The rows of a lawful table by their places: each is in range, and the bars before it are as many as the gaps say.
 -- Assumes nothing.
-use Rattle.std.specs.Prelude.{◌≡◌, ℕ, zero, suc, ◌+◌, ◌-◌, ◌*◌, ◌<◌, ◌≤◌, true, List, [], ◌∷◌, length, get_or, slice_index_or}
-use Rattle.std.proofs.Common.{sym, ◌∙◌, ap, arith, mul-le-mul_left}
-use Rattle.meter.specs.Rules.{bar_of, row_kept, all_kept}
+use Rattle.std.specs.Prelude.{◌≡◌, ℕ, zero, suc, ◌+◌, ◌<◌, ◌≤◌, true, List, [], ◌∷◌, length, get_or, slice_index_or}
+use Rattle.std.proofs.Common.{arith, mul-le-mul_left}
+use Rattle.meter.specs.Rules.{row_kept, all_kept}
 use Rattle.meter.specs.BarLines.{no_row, gap_of, bars_from}
 use Rattle.meter.specs.declared.row.MeterRow.{MeterRow}
 use Rattle.meter.specs.Stretch.{Link, Parts, parts}

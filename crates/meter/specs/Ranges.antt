@@ -1,11 +1,11 @@
 -- What a row's test says in numbers, and that a bar has at least one tick and not too many.
 -- Assumes nothing.
-use Rattle.std.specs.Prelude.{◌≡◌, ℕ, ◌+◌, ◌-◌, ◌*◌, ◌/◌, ◌%◌, ◌^◌, ◌<◌, ◌≤◌, true}
+use Rattle.std.specs.Prelude.{◌≡◌, ℕ, ◌*◌, ◌/◌, ◌%◌, ◌^◌, ◌≤◌, true}
 use Rattle.std.proofs.Common.{inl, inr, div-le_self, arith}
-use Rattle.std.proofs.lemmas.Nat.{mul-le, div-add-mod', pow_pos}
+use Rattle.std.proofs.lemmas.Nat.{mul-le, div-add-mod'}
 use Rattle.std.proofs.lemmas.Bool.{cases_lt}
 use Rattle.std.proofs.lemmas.Bool.Decides.{nat_tests}
-use Rattle.meter.specs.Rules.{bar_of, row_kept, next_kept}
+use Rattle.meter.specs.Rules.{bar_of, row_kept}
 use Rattle.meter.specs.declared.row.MeterRow.{MeterRow}
 
 pub record InRange (division : ℕ) (r : MeterRow) : Type 0 where

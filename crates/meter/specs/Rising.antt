@@ -1,9 +1,9 @@
 -- The ticks of bar lines rise strictly, from the first row's.
 -- Assumes nothing.
 use Rattle.std.specs.Prelude.{◌≡◌, ℕ, zero, suc, ◌+◌, ◌-◌, ◌*◌, ◌<◌, ◌≤◌, true, List, [], ◌∷◌}
-use Rattle.std.proofs.Common.{sym, ◌∙◌, ap, inl, inr, add-mul, add-one, arith}
+use Rattle.std.proofs.Common.{◌∙◌, ap, inl, inr, add-mul, add-one, arith}
 use Rattle.std.proofs.lemmas.Bool.{cases_lt, cases_order}
-use Rattle.meter.specs.Rules.{bar_of, row_kept, all_kept}
+use Rattle.meter.specs.Rules.{bar_of, all_kept}
 use Rattle.meter.specs.BarLines.{gap_of, bar_from}
 use Rattle.meter.specs.declared.row.MeterRow.{MeterRow}
 use Rattle.meter.specs.Ranges.{bar_pos}

@@ -5,7 +5,7 @@
 --   all_kept   a row and those after it keep the rules
 --   kept       a whole table keeps the rules
 -- Assumes nothing.
-use Rattle.std.specs.Prelude.{ℕ, ◌-◌, ◌*◌, ◌/◌, ◌%◌, ◌^◌, Bool, true, false, ◌&&◌, List, [], ◌∷◌, length, ◌==◌, nat_le, nat_lt}
+use Rattle.std.specs.Prelude.{ℕ, ◌-◌, ◌*◌, ◌/◌, ◌%◌, ◌^◌, Bool, false, ◌&&◌, List, [], ◌∷◌, length, ◌==◌, nat_le, nat_lt}
 use Rattle.meter.specs.declared.row.MeterRow.{MeterRow}
 
 abbrev pub bar_of : ℕ → MeterRow → ℕ

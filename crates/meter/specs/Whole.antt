@@ -1,17 +1,15 @@
 -- A whole lawful table: what its rows are by place, where its bars begin, and how a bar and a tick are looked up.
 -- Assumes nothing.
-use Rattle.std.specs.Prelude.{◌≡◌, ℕ, zero, suc, ◌+◌, ◌-◌, ◌*◌, ◌<◌, ◌≤◌, Bool, true, ◌&&◌, List, [], ◌∷◌, length, get_or, ◌==◌, nat_le, slice_index_or}
-use Rattle.std.proofs.Common.{sym, ◌∙◌, ap, arith, add-one}
+use Rattle.std.specs.Prelude.{◌≡◌, ℕ, suc, ◌+◌, ◌<◌, ◌≤◌, true, ◌&&◌, List, [], ◌∷◌, length, get_or, ◌==◌, nat_le, slice_index_or}
+use Rattle.std.proofs.Common.{arith, add-one}
 use Rattle.std.proofs.lemmas.Bool.{and_parts}
 use Rattle.std.proofs.lemmas.Bool.Decides.{nat_tests}
 use Rattle.meter.specs.Rules.{bar_of, row_kept, all_kept, kept}
-use Rattle.meter.specs.BarLines.{no_row, gap_of, bar_start, bars_before, FirstAt}
+use Rattle.meter.specs.BarLines.{no_row, gap_of, bars_before}
 use Rattle.meter.specs.declared.row.MeterRow.{MeterRow}
 use Rattle.meter.specs.Ranges.{InRange, in_range, bar_pos, bar_below}
 use Rattle.meter.specs.Stretch.{Link}
-use Rattle.meter.specs.Rising.{starts, rises}
 use Rattle.meter.specs.Places.{row_at, link_at, bars_step, bars_le}
-use Rattle.meter.specs.Lookup.{bar_at, reach_at, Fewest}
 
 -- the rules of a whole table, one by one
 pub record Lawful (d : ℕ) (r : MeterRow) (rest : List MeterRow) : Type 0 where

@@ -7,8 +7,8 @@ use Rattle.meter.proofs.table.making.count_bars.Goals as goal
 pub overflow_sub-gap : goal.overflow_sub-gap
 overflow_sub-gap c = omega (arith, (linked_at c.args.division c.args.rows.now c.loop-i.i c.requires (omega arith)).later)
 
-pub bar-ticks-requires : goal.bar-ticks-requires
-bar-ticks-requires c =
+pub bar_ticks-requires : goal.bar_ticks-requires
+bar_ticks-requires c =
     let p : Placed c.args.division c.args.rows.now c.loop-i.i =
     placed_at c.args.division c.args.rows.now c.loop-i.i c.requires (omega arith) in
     (p.high, (p.range.few_beats, p.range.note))
@@ -20,13 +20,13 @@ pub overflow_add-before : goal.overflow_add-before
 overflow_add-before c =
     omega (
       arith,
-      next_fits c.args.division c.args.rows.now c.loop-i.before c.loop-i.i c.bar-ticks.result
-          c.requires (omega arith) c.bar-ticks.ensures c.loop-i.invariant.1,
+      next_fits c.args.division c.args.rows.now c.loop-i.before c.loop-i.i c.bar_ticks.result
+          c.requires (omega arith) c.bar_ticks.ensures c.loop-i.invariant.1,
     )
 
 pub loop-i-preserved : goal.loop-i-preserved
 loop-i-preserved c = (
   length-set c.loop-i.before _ _ ∙ c.loop-i.invariant.0,
-  counted_on c.args.division c.args.rows.now c.loop-i.before c.loop-i.i c.bar-ticks.result
-      c.requires (omega arith) c.bar-ticks.ensures c.loop-i.invariant.0 c.loop-i.invariant.1,
+  counted_on c.args.division c.args.rows.now c.loop-i.before c.loop-i.i c.bar_ticks.result
+      c.requires (omega arith) c.bar_ticks.ensures c.loop-i.invariant.0 c.loop-i.invariant.1,
 )
