@@ -1,8 +1,7 @@
 -- What printing a label answers and leaves, where the format has it and there is room.
 -- Assumes nothing.
-use Rattle.std.proofs.Common.{◌≡◌, ℕ, ◌≤◌, Bool, true, false, cond, ◌&&◌, ltb, leb, List, ◌++◌, length, drop, Ok, Err, Result, refl, arith}
+use Rattle.std.proofs.Common.{◌≡◌, ℕ, ◌≤◌, true, false, ltb, leb, List, ◌++◌, length, drop, Ok, refl, arith}
 use Rattle.std.proofs.lemmas.Bool.Decides.{nat_tests}
-use Rattle.refusal.specs.declared.Refusal.{Refusal}
 use Rattle.forms.specs.Labels.{valid}
 use Rattle.forms.specs.LabelText.{label_text, print_answer, print_after}
 use Rattle.forms.specs.declared.format.Format.{Format}

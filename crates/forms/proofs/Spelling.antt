@@ -2,15 +2,14 @@
 --   Figured  the places of a text hold a label's figures
 --   Spelt   the places of a text hold a label's figures and the separators
 -- Assumes nothing.
-use Rattle.std.proofs.Common.{◌≡◌, ℕ, ◌+◌, ◌-◌, ◌*◌, ◌/◌, ◌%◌, ◌<◌, Bool, true, false, cond, ◌&&◌, eqb, List, [], ◌∷◌, length, get_or, Ok, Err, Result, sym, refl, ap, ◌∙◌, subst, arith}
+use Rattle.std.proofs.Common.{◌≡◌, ℕ, ◌+◌, ◌-◌, ◌*◌, ◌<◌, Bool, true, false, cond, ◌&&◌, eqb, List, length, get_or, Ok, Err, sym, refl, subst, arith}
 use Rattle.std.specs.Str.{bytes_eq}
 use Rattle.std.proofs.lemmas.Slice.Eq.{HasBytesAt, bytes_eq-Decides, text_from_reads}
 use Rattle.std.proofs.lemmas.Bool.Decides.{nat_tests}
-use Rattle.refusal.specs.declared.Refusal.{Refusal}
 use Rattle.refusal.specs.declared.Refusal.TheVariants.{NotWritten}
 use Rattle.forms.specs.Formats.{values}
 use Rattle.forms.specs.Labels.{valid, in_range, left_out}
-use Rattle.forms.specs.LabelText.{label_text, TwoFigures, separators, part_at, figures_label, parsed, Writes}
+use Rattle.forms.specs.LabelText.{label_text, TwoFigures, separators, figures_label, parsed, Writes}
 use Rattle.forms.specs.declared.format.Format.{Format}
 use Rattle.forms.specs.declared.format.Format.TheVariants.{Film24, Pal25, Full30, Drop30}
 use Rattle.forms.specs.declared.label.Label.{Label}

@@ -1,7 +1,7 @@
 -- What an answer to a text is to be: what reading gives, and right.
 --   Told   an answer is what reading gives, a label's own text gives that label, and no other text a label
 -- Assumes nothing.
-use Rattle.std.proofs.Common.{◌≡◌, ℕ, Bool, true, false, List, length, get_or, Some, Ok, Err, Result, sym, refl, ◌∙◌, subst, arith}
+use Rattle.std.proofs.Common.{◌≡◌, ℕ, Bool, true, false, List, length, get_or, Some, Err, Result, sym, refl, ◌∙◌, subst, arith}
 use Rattle.refusal.specs.declared.Refusal.{Refusal}
 use Rattle.refusal.specs.declared.Refusal.TheVariants.{NotWritten}
 use Rattle.forms.specs.Labels.{valid}

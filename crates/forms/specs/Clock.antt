@@ -1,7 +1,7 @@
 -- Clock arithmetic: mixed-radix digits, and the labels that dropping leaves out.
 -- Assumes nothing.
 use Rattle.std.specs.Prelude.{◌≡◌, ℕ, ◌+◌, ◌-◌, ◌*◌, ◌/◌, ◌%◌, ◌<◌, ◌≤◌, ◌⊎◌, refl}
-use Rattle.std.proofs.Common.{sym, ap, inl, inr, ⊎_elim, mul_comm, arith}
+use Rattle.std.proofs.Common.{⊎_elim, mul_comm, arith}
 use Rattle.std.proofs.lemmas.Nat.{div_below}
 use Rattle.std.proofs.lemmas.Bool.Decides.{nat_tests}
 

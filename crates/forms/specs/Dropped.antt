@@ -1,11 +1,11 @@
 -- What a format leaves out can be put back: proved plainly where nothing is, and once for dropping.
 --   Undone   taking away and adding what is left out undo each other, and adding keeps the order
 -- Assumes nothing.
-use Rattle.std.specs.Prelude.{◌≡◌, ℕ, ◌+◌, ◌-◌, ◌*◌, ◌/◌, ◌%◌, ◌<◌, ◌≤◌, Bool, true, false, ◌&&◌, ◌⊎◌, refl}
-use Rattle.std.proofs.Common.{sym, ap, ◌∙◌, inl, inr, ⊎_elim, arith}
+use Rattle.std.specs.Prelude.{◌≡◌, ℕ, ◌+◌, ◌-◌, ◌*◌, ◌/◌, ◌%◌, ◌<◌, ◌≤◌, false, ◌&&◌, refl}
+use Rattle.std.proofs.Common.{ap, ◌∙◌, arith}
 use Rattle.std.proofs.lemmas.Bool.Decides.{nat_tests}
 use Rattle.forms.specs.Formats.{values}
-use Rattle.forms.specs.Labels.{minutes_in, seconds_in, nominal, in_range, left_out, dropped_before, added_to, nominal_label, label_of}
+use Rattle.forms.specs.Labels.{minutes_in, nominal, left_out, dropped_before, added_to, label_of}
 use Rattle.forms.specs.declared.format.Format.{Format}
 use Rattle.forms.specs.declared.format.Format.TheVariants.{Film24, Pal25, Full30, Drop30}
 use Rattle.forms.specs.declared.label.Label.{Label}

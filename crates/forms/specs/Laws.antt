@@ -1,8 +1,7 @@
 -- Labels pair with the numbers below a day's count, in order, in every format.
 -- Assumes nothing.
-use Rattle.std.specs.Prelude.{◌≡◌, ℕ, ◌+◌, ◌-◌, ◌*◌, ◌<◌, ◌≤◌, Bool, true, false, cond, not, ◌&&◌, ◌⊎◌, Some, None, Option, refl}
-use Rattle.std.proofs.Common.{sym, ap, ◌∙◌, inl, inr, ⊎_elim, arith}
-use Rattle.std.proofs.lemmas.Bool.Decides.{nat_tests}
+use Rattle.std.specs.Prelude.{◌≡◌, ℕ, ◌+◌, ◌-◌, ◌<◌, ◌≤◌, Bool, true, false, cond, not, ◌&&◌, Some, None, refl}
+use Rattle.std.proofs.Common.{ap, ◌∙◌, ⊎_elim, arith}
 use Rattle.forms.specs.Pairing.{Pairing, InOrder, Earlier}
 use Rattle.forms.specs.Formats.{values}
 use Rattle.forms.specs.Labels.{minutes_in, nominal, in_range, left_out, valid, dropped_before, added_to, nominal_label, label_of, label_number, label_parts}
@@ -10,7 +9,7 @@ use Rattle.forms.specs.declared.format.Format.{Format}
 use Rattle.forms.specs.declared.label.Label.{Label}
 use Rattle.forms.specs.Order.{three_ways, compared}
 use Rattle.forms.specs.Nominal.{InRange, ranges, nominal_back, nominal_in_range, nominal_forth, nominal_lower}
-use Rattle.forms.specs.Dropped.{Undone, undone}
+use Rattle.forms.specs.Dropped.{undone}
 
 some_from : (v : Bool) (x n : ℕ) → cond v (Some x) None ≡ Some n → (v ≡ true) × (x ≡ n)
 some_from true x n e = (refl, (cc))

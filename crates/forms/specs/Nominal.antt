@@ -1,12 +1,12 @@
 -- Labels where none is left out: their numbers, over the frames a second c.
 -- Assumes nothing.
-use Rattle.std.specs.Prelude.{◌≡◌, ℕ, ◌+◌, ◌-◌, ◌*◌, ◌/◌, ◌%◌, ◌<◌, ◌≤◌, Bool, true, false, ◌⊎◌, List, [], ◌∷◌, refl}
-use Rattle.std.proofs.Common.{sym, ap, ◌∙◌, inl, inr, ⊎_elim, mul_comm, mod-lt, arith}
+use Rattle.std.specs.Prelude.{◌≡◌, ℕ, ◌*◌, ◌/◌, ◌%◌, ◌<◌, true, refl}
+use Rattle.std.proofs.Common.{ap, ⊎_elim, mul_comm, mod-lt, arith}
 use Rattle.std.proofs.Math.Nat.{div-add-mod}
 use Rattle.std.proofs.lemmas.Nat.{div-mul-add, mod-mul-add, div_below, mul-add-lt}
 use Rattle.std.proofs.lemmas.Bool.Decides.{nat_tests}
 use Rattle.forms.specs.Pairing.{Earlier}
-use Rattle.forms.specs.Labels.{minutes_in, seconds_in, nominal, in_range, nominal_label, label_parts}
+use Rattle.forms.specs.Labels.{seconds_in, nominal, in_range, nominal_label, label_parts}
 use Rattle.forms.specs.declared.label.Label.{Label}
 use Rattle.forms.specs.Order.{high_digit}
 use Rattle.forms.specs.Clock.{clock_back, clock_hours, clock_minutes, clock_seconds}

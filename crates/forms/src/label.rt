@@ -47,7 +47,9 @@ impl Label {
 
     // The label of a number where none is left out.
     fn nominal(rate: u64, n: u64) -> Label
-        requires { (0 < rate) × ((rate ≤ 30) × (n < rate * 86400)) }
+        requires some { 0 < rate }
+        requires few { rate ≤ 30 }
+        requires below { n < rate * 86400 }
         ensures { result ≡ nominal_label rate n }
     {
         let second = n / rate;

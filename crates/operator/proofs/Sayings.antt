@@ -1,21 +1,20 @@
 -- What lines say, and that each request is read from its own text.
 --   too_many    a line of more than three words says nothing
 --   words_first, words_last   the words of a text that is put together from words
---   read-back   each request is read from its own text
+--   read_back   each request is read from its own text
 -- Assumes nothing.
-use Rattle.std.proofs.Common.{◌≡◌, ℕ, ◌+◌, ◌-◌, ◌^◌, ◌<◌, ◌≤◌, Bool, true, false, cond, eqb, List, [], ◌∷◌, ◌++◌, length, get_or, Some, None, codes, IsUtf8, Option, sym, refl, ap, ◌∙◌, arith, length-append, Bor}
-use Rattle.std.specs.List.{AllByRecursion as All}
+use Rattle.std.proofs.Common.{◌≡◌, ℕ, ◌-◌, ◌^◌, ◌<◌, Bool, true, false, cond, eqb, List, [], ◌∷◌, ◌++◌, length, get_or, Some, codes, IsUtf8, Option, sym, refl, ap, ◌∙◌, arith, length-append, Bor}
 use Rattle.std.proofs.lemmas.Bool.{ne_eqb, eq-eqb, cond-false, cond-true}
 use Rattle.std.proofs.lemmas.List.{get_or_at, take_at}
 use Rattle.std.proofs.ByRecursion.{All-from_get_or}
 use Rattle.std.proofs.lemmas.Str.Parse.{digit_at}
 use Rattle.std.proofs.lemmas.Fmt.{decimal_is_IsNumeral, IsAscii-decimal}
 use Rattle.std.proofs.lemmas.Str.{IsUtf8-append, IsUtf8-from_ascii, IsUtf8-nil}
-use Rattle.text.specs.Decimal.{digits, plain}
+use Rattle.text.specs.Decimal.{digits}
 use Rattle.text.proofs.Figures.{plain_digits}
 use Rattle.operator.specs.Words.{onto, words, rest_words, verb_of, without_end}
 use Rattle.operator.proofs.Texts.{is_text_from, is_text_gives, low_text}
-use Rattle.operator.specs.Requests.{Said, adds, strikes, seeks, plays, places, locates, logs, nothing, two_words, three_words, by_words, says, asks, request_text, Spaceless, Writable, EveryRequestReadsBack}
+use Rattle.operator.specs.Requests.{Said, adds, strikes, seeks, plays, places, locates, logs, nothing, two_words, three_words, by_words, says, request_text, Spaceless, Writable, EveryRequestReadsBack}
 
 -- a word before more words, or alone
 many : (v w label : List ℕ) (t : Bool) (b : ℕ) (xs ys : List (List ℕ))

@@ -6,7 +6,7 @@
 --   request_text              the line that makes a request
 --   Spaceless                 bytes with no space among them
 --   Writable                  the numbers fit 64 bits, and the label is one word of text
---   EveryRequestReadsBack  each request is read from its own text, and from it with a line end
+--   EveryRequestReadsBack     each request is read from its own text, and from it with a line end
 -- Assumes nothing.
 use Rattle.std.specs.Prelude.{◌≡◌, ℕ, ◌^◌, ◌<◌, true, cond, List, [], ◌∷◌, ◌++◌, length, Some, None, codes, Option, ◌≢◌}
 use Rattle.std.specs.List.{AllByRecursion as All}

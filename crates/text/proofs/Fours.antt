@@ -3,7 +3,7 @@
 --   first, second, third   the answers on the way
 --   whole        what the four calls do together
 -- Assumes nothing.
-use Rattle.std.proofs.Common.{◌≡◌, ℕ, ◌+◌, ◌<◌, ◌≤◌, List, [], ◌∷◌, ◌++◌, length, Some, None, Ok, Option, Result, sym, ap, ◌∙◌, subst, append_assoc, arith, lit≤, length-append}
+use Rattle.std.proofs.Common.{◌≡◌, ℕ, ◌+◌, ◌≤◌, List, [], ◌∷◌, ◌++◌, length, Some, None, Ok, Option, Result, ◌∙◌, subst, append_assoc, arith, lit≤, length-append}
 use Rattle.refusal.specs.declared.Refusal.{Refusal}
 use Rattle.forms.specs.declared.format.Format.{Format}
 use Rattle.forms.specs.declared.label.Label.{Label}

@@ -2,14 +2,14 @@
 --   loan_done     the part came back with the text at its start
 --   loan_refused  the part came back as it was, too short for the text
 -- Assumes nothing.
-use Rattle.std.proofs.Common.{◌≡◌, ℕ, ◌+◌, ◌-◌, ◌<◌, ◌≤◌, Bool, true, false, cond, leb, List, [], ◌∷◌, ◌++◌, length, take, drop, Some, None, Ok, Err, sym, refl, ap, ◌∙◌, append_assoc, arith, length-append, length-drop}
+use Rattle.std.proofs.Common.{◌≡◌, ℕ, ◌+◌, ◌-◌, ◌<◌, ◌≤◌, Bool, true, false, cond, List, [], ◌++◌, length, take, drop, Some, None, Ok, Err, sym, refl, ap, ◌∙◌, append_assoc, arith, length-append, length-drop}
 use borrow.Rule.Slice.PartMut.{put_mid}
 use Rattle.std.proofs.lemmas.List.{take_rest, take_at, drop-drop, drop_all, append-nil, take-append-drop, length-take-le, take_all}
 use Rattle.std.proofs.lemmas.Bool.{le-leb, lt-leb, leb-true, leb-false, cond-true, cond-false}
 use Rattle.refusal.specs.declared.Refusal.TheVariants.{ShortBuffer}
 use Rattle.text.specs.declared.writer.TextWriter.{TextWriter}
 use Rattle.text.specs.Decimal.{fits_in, room_for, put_at_start}
-use Rattle.text.specs.Writer.{written, fits_after, said_after, buffer_after, filled_after, Appends}
+use Rattle.text.specs.Writer.{written, fits_after, Appends}
 
 some_cond : (b : Bool) (x k : ℕ) → Some k ≡ cond b (Some x) None → (b ≡ true) × (k ≡ x)
 some_cond true x k e = (refl, cc)

@@ -6,5 +6,5 @@ use Rattle.operator.proofs.line.is_text.Goals as goal
 pub returns : goal.returns
 returns c =
     let line = c.args.line.now in
-    c.is-ok.ensures.value
-    ∙ text_test c.from-utf8.result line (λ s. s.now ≡ line) (λ e. IsValidUpTo line (valid_up_to e)) c.from-utf8.ensures.cases
+    c.is_ok.ensures.value
+    ∙ text_test c.from_utf8.result line (λ s. s.now ≡ line) (λ e. IsValidUpTo line (valid_up_to e)) c.from_utf8.ensures.cases

@@ -14,8 +14,8 @@ pub returns-in-Add : goal.returns-in-Add
 returns-in-Add g c =
     let d = c.args.deck.now in
     let w = world-of g.C.Timebase.meaning (λ f. label_number f.format) g.L.Timebase.meaning g.L.WrittenTimebase.form d in
-    let same : c.label-of-label.result ≡ label_written d.form.format c.in-Add.label.now
-    = c.label-of-label.ensures.value ∙ ap (λ f. label_written f.format c.in-Add.label.now) c.form.ensures in
+    let same : c.label_of-label.result ≡ label_written d.form.format c.in-Add.label.now
+    = c.label_of-label.ensures.value ∙ ap (λ f. label_written f.format c.in-Add.label.now) c.form.ensures in
     subst (λ q. Carried w d c.add.new.self (said q) (Answered c.done.result)) (sym c.in-Add.is)
     (subst (λ v. Called w d c.add.new.self (Add c.in-Add.number v) (Answered c.done.result)) same
     (record {

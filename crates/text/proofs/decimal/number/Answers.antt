@@ -1,10 +1,10 @@
-use Rattle.std.proofs.Common.{◌≡◌, ◌<◌, ◌≤◌, ◌++◌, length, drop, sym, ap, ◌∙◌, arith}
+use Rattle.std.proofs.Common.{◌<◌, ◌≤◌, length, ◌∙◌, arith}
 use Rattle.text.specs.Decimal.{digits}
 use Rattle.text.proofs.Fills.{width_one, width_step, fill_step, fill_last, put_is, room_is}
 use Rattle.text.proofs.decimal.number.Goals as goal
 
-pub overflow-sub-at : goal.overflow-sub-at
-overflow-sub-at c =
+pub overflow_sub-at : goal.overflow_sub-at
+overflow_sub-at c =
     let s = width_step c.loop-rest.rest c.loop-rest.invariant.1 c.loop-rest-test.true in
     omega arith
 

@@ -3,8 +3,8 @@ use Rattle.text.proofs.Figures.{width_most}
 use Rattle.text.proofs.Fills.{width_one, width_step}
 use Rattle.text.proofs.decimal.width.Goals as goal
 
-pub overflow-add-count : goal.overflow-add-count
-overflow-add-count c = omega (arith, width_most c.args.n c.ranges.n.fits)
+pub overflow_add-count : goal.overflow_add-count
+overflow_add-count c = omega (arith, width_most c.args.n c.ranges.n.fits)
 
 pub loop-rest-preserved : goal.loop-rest-preserved
 loop-rest-preserved c =

@@ -17,7 +17,7 @@ returns-then-has g c =
     let d = c.args.self.now in
     let w = world-of g.C.Timebase.meaning g.F.WrittenForm.number g.L.Timebase.meaning g.L.WrittenTimebase.form d in
     let n = c.args.number in
-    let range : out_of_range n ≡ false = c.if-not-in-range.ensures in
+    let range : out_of_range n ≡ false = c.if-not-in_range.ensures in
     let in-book : true ≡ has n (cues d.book) = c.if-has.ensures in
     refused w d (Add n c.args.at) done CueAlreadyIn
     (λ calls had. add-in w (accepted w calls) (kept_all w calls) n c.args.at range (sym (in-book ∙ ap (has n) had.cues_are)))
@@ -28,7 +28,7 @@ returns-in-Err g c =
     let w = world-of g.C.Timebase.meaning g.F.WrittenForm.number g.L.Timebase.meaning g.L.WrittenTimebase.form d in
     let n = c.args.number in
     let v = c.args.at in
-    let range : out_of_range n ≡ false = c.if-not-in-range.ensures in
+    let range : out_of_range n ≡ false = c.if-not-in_range.ensures in
     let not_in : false ≡ has n (cues d.book) = c.if-has.ensures in
     refused w d (Add n v) done c.in-Err.why
     (λ calls had.
@@ -46,7 +46,7 @@ returns-then-enter g c =
     let n = c.args.number in
     let v = c.args.at in
     let p = c.in-Ok.position in
-    let range : out_of_range n ≡ false = c.if-not-in-range.ensures in
+    let range : out_of_range n ≡ false = c.if-not-in_range.ensures in
     let not_in : false ≡ has n (cues d.book) = c.if-has.ensures in
     let at = at_ok (w.number v) w.cues.len p c.in-Ok.ensures in
     let is = at.0 in
@@ -72,7 +72,7 @@ returns-else-enter g c =
     let n = c.args.number in
     let v = c.args.at in
     let p = c.in-Ok.position in
-    let range : out_of_range n ≡ false = c.if-not-in-range.ensures in
+    let range : out_of_range n ≡ false = c.if-not-in_range.ensures in
     let not_in : false ≡ has n (cues d.book) = c.if-has.ensures in
     let at = at_ok (w.number v) w.cues.len p c.in-Ok.ensures in
     let is = at.0 in

@@ -18,38 +18,38 @@ pub returns-then-from-to : goal.returns-then-from-to
 returns-then-from-to g c =
     let d = c.args.self.now in
     let w = world-of g.C.Timebase.meaning g.F.WrittenForm.number g.L.Timebase.meaning g.L.WrittenTimebase.form d in
-    let r = c.row-on-from.ensures in
+    let r = c.row_on-from.ensures in
     λ calls had.
     let k = kept_all w calls in
     let rises : Rising (cues d.book) = subst Rising (sym had.cues_are) k.rises in
     none_found w (accepted w calls) k c.args.sample (g.met.C.Timebase.sound d.pile) r.low r.high
-    c.row-on-from.result.0 c.row-on-from.result.1 r.first r.last
-    (subst (λ cs. Splits _ cs r.low c.row-on-from.result.0) had.cues_are (r.begins rises))
-    (subst (λ cs. Splits _ cs r.high c.row-on-from.result.1) had.cues_are (r.ends rises))
+    c.row_on-from.result.0 c.row_on-from.result.1 r.first r.last
+    (subst (λ cs. Splits _ cs r.low c.row_on-from.result.0) had.cues_are (r.begins rises))
+    (subst (λ cs. Splits _ cs r.high c.row_on-from.result.1) had.cues_are (r.ends rises))
     c.if-from-to.true
 
 pub returns-in-Some : goal.returns-in-Some
 returns-in-Some g c =
     let d = c.args.self.now in
     let w = world-of g.C.Timebase.meaning g.F.WrittenForm.number g.L.Timebase.meaning g.L.WrittenTimebase.form d in
-    let r = c.row-on-from.ensures in
+    let r = c.row_on-from.ensures in
     let x = c.in-Some.cue in
     λ calls had.
     let k = kept_all w calls in
     let rises : Rising (cues d.book) = subst Rising (sym had.cues_are) k.rises in
-    let is : x ≡ get_or (book-of w (accepted w calls)) c.row-on-from.result.0 x
-    = c.in-Some.ensures.1 x ∙ ap (λ cs. get_or cs c.row-on-from.result.0 x) had.cues_are in
+    let is : x ≡ get_or (book-of w (accepted w calls)) c.row_on-from.result.0 x
+    = c.in-Some.ensures.1 x ∙ ap (λ cs. get_or cs c.row_on-from.result.0 x) had.cues_are in
     ap (λ y. stands_on w y.number (accepted w calls)) is
     ∙ first_found w (accepted w calls) k c.args.sample (g.met.C.Timebase.sound d.pile) r.low r.high
-    c.row-on-from.result.0 c.row-on-from.result.1 r.first r.last
-    (subst (λ cs. Splits _ cs r.low c.row-on-from.result.0) had.cues_are (r.begins rises))
-    (subst (λ cs. Splits _ cs r.high c.row-on-from.result.1) had.cues_are (r.ends rises))
+    c.row_on-from.result.0 c.row_on-from.result.1 r.first r.last
+    (subst (λ cs. Splits _ cs r.low c.row_on-from.result.0) had.cues_are (r.begins rises))
+    (subst (λ cs. Splits _ cs r.high c.row_on-from.result.1) had.cues_are (r.ends rises))
     x c.if-from-to.false
 
 pub returns-in-None : goal.returns-in-None
 returns-in-None g c =
     let d = c.args.self.now in
-    let r = c.row-on-from.ensures in
+    let r = c.row_on-from.ensures in
     let w = world-of g.C.Timebase.meaning g.F.WrittenForm.number g.L.Timebase.meaning g.L.WrittenTimebase.form d in
     λ calls had.
     let rises : Rising (cues d.book) = subst Rising (sym had.cues_are) (kept_all w calls).rises in

@@ -12,8 +12,8 @@ loop-i-preserved g c =
     let e = c.loop-i.self in
     let i = c.loop-i.i in
     let alike = same_world g.C.Timebase.meaning g.F.WrittenForm.number g.L.Timebase.meaning g.L.WrittenTimebase.form d e c.loop-i.invariant.keeps in
-    logs_more _ c.args.from i d e c.log-one.new.self c.loop-i.auto.i c.loop-i.invariant
-    (subst (λ w. Logs w i (i + 1) e c.log-one.new.self) alike c.log-one.ensures)
+    logs_more _ c.args.from i d e c.log_one.new.self c.loop-i.auto.i c.loop-i.invariant
+    (subst (λ w. Logs w i (i + 1) e c.log_one.new.self) alike c.log_one.ensures)
 
 pub returns : goal.returns
 returns g c = logs_all _ _ _ c.loop-i.i _ _ c.loop-i.auto.i-end c.loop-i-test.false c.loop-i.invariant

@@ -16,7 +16,7 @@ returns-then-strike g c =
     let d = c.args.self.now in
     let w = world-of g.C.Timebase.meaning g.F.WrittenForm.number g.L.Timebase.meaning g.L.WrittenTimebase.form d in
     let n = c.args.number in
-    let range : out_of_range n ≡ false = c.if-not-in-range.ensures in
+    let range : out_of_range n ≡ false = c.if-not-in_range.ensures in
     let in-book : true ≡ has n (cues d.book) = c.if-strike.ensures.value in
     taken w d (Strike n) done _ 0
     (λ calls had.
@@ -34,7 +34,7 @@ returns-else-strike g c =
     let d = c.args.self.now in
     let w = world-of g.C.Timebase.meaning g.F.WrittenForm.number g.L.Timebase.meaning g.L.WrittenTimebase.form d in
     let n = c.args.number in
-    let range : out_of_range n ≡ false = c.if-not-in-range.ensures in
+    let range : out_of_range n ≡ false = c.if-not-in_range.ensures in
     let not_in : false ≡ has n (cues d.book) = c.if-strike.ensures.value in
     refused_by w d (Strike n) done _ CueNotIn refl (c.if-strike.ensures.after ∙ struck_absent n (cues d.book) (sym not_in)) refl
     (record { piles = refl; forms = refl; frames = refl; places = c.if-strike.ensures.room; lines = refl })

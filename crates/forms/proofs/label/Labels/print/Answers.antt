@@ -11,6 +11,6 @@ returns c =
     let out = c.args.out.now in
     let has : valid f l ≡ true = cc in
     let room : 11 ≤ length out = omega arith in
-    let front = c.copy-from-slice.new.self in
-    let is : front ≡ label_text f l = c.copy-from-slice.ensures.after ∙ c.text-text.ensures in
+    let front = c.copy_from_slice.new.self in
+    let is : front ≡ label_text f l = c.copy_from_slice.ensures.after ∙ c.text-text.ensures in
     record { value = prints f l (length out) has room; after = leaves f l front out has room is }

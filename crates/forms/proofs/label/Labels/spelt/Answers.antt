@@ -1,4 +1,4 @@
-use Rattle.std.proofs.Common.{◌≡◌, false, get_or, Ok, Err, refl, rules}
+use Rattle.std.proofs.Common.{◌≡◌, false, get_or, Err, refl, rules}
 use Rattle.forms.specs.LabelText.{separators}
 use Rattle.refusal.specs.declared.Refusal.TheVariants.{NotWritten}
 use Rattle.forms.specs.declared.label.Label.{Label}
@@ -7,60 +7,60 @@ use Rattle.forms.proofs.Telling.{told_refused, told_spelt, not_marked}
 use Rattle.forms.proofs.label.Labels.spelt.Goals as goal
 
 -- a text that is not eleven long
-pub returns-in-default : goal.returns-in-default
-returns-in-default c =
+pub returns-in_default : goal.returns-in_default
+returns-in_default c =
     let t = told_refused c.args.self.now.format c.args.text.now (Err NotWritten) refl
     (λ l s. let long = s.long in search rules) in
     record { value = t.value; cases = t.cases }
 
-pub returns-in-default·2 : goal.returns-in-default·2
-returns-in-default·2 c =
+pub returns-in_default-2 : goal.returns-in_default-2
+returns-in_default-2 c =
     let t = told_refused c.args.self.now.format c.args.text.now (Err NotWritten) refl
     (λ l s. let long = s.long in search rules) in
     record { value = t.value; cases = t.cases }
 
 -- a part that is no two figures
-pub returns-in-err-part : goal.returns-in-err-part
-returns-in-err-part c =
-    let none = c.in-err-part.ensures in
+pub returns-in_err-part : goal.returns-in_err-part
+returns-in_err-part c =
+    let none = c.in_err-part.ensures in
     let t = told_refused c.args.self.now.format c.args.text.now (Err NotWritten) refl
     (λ l s. none l.hours s.parts.hours_are) in
     rw c.from_residual.ensures (record { value = t.value; cases = t.cases })
 
-pub returns-in-err-part-2 : goal.returns-in-err-part-2
-returns-in-err-part-2 c =
-    let none = c.in-err-part-2.ensures in
+pub returns-in_err-part-2 : goal.returns-in_err-part-2
+returns-in_err-part-2 c =
+    let none = c.in_err-part-2.ensures in
     let t = told_refused c.args.self.now.format c.args.text.now (Err NotWritten) refl
     (λ l s. none l.minutes s.parts.minutes_are) in
-    rw c.from_residual-in-err-part-2.ensures (record { value = t.value; cases = t.cases })
+    rw c.from_residual-in_err-part-2.ensures (record { value = t.value; cases = t.cases })
 
-pub returns-in-err-part-3 : goal.returns-in-err-part-3
-returns-in-err-part-3 c =
-    let none = c.in-err-part-3.ensures in
+pub returns-in_err-part-3 : goal.returns-in_err-part-3
+returns-in_err-part-3 c =
+    let none = c.in_err-part-3.ensures in
     let t = told_refused c.args.self.now.format c.args.text.now (Err NotWritten) refl
     (λ l s. none l.seconds s.parts.seconds_are) in
-    rw c.from_residual-in-err-part-3.ensures (record { value = t.value; cases = t.cases })
+    rw c.from_residual-in_err-part-3.ensures (record { value = t.value; cases = t.cases })
 
-pub returns-in-err-part-4 : goal.returns-in-err-part-4
-returns-in-err-part-4 c =
-    let none = c.in-err-part-4.ensures in
+pub returns-in_err-part-4 : goal.returns-in_err-part-4
+returns-in_err-part-4 c =
+    let none = c.in_err-part-4.ensures in
     let t = told_refused c.args.self.now.format c.args.text.now (Err NotWritten) refl
     (λ l s. none l.frames s.parts.frames_are) in
-    rw c.from_residual-in-err-part-4.ensures (record { value = t.value; cases = t.cases })
+    rw c.from_residual-in_err-part-4.ensures (record { value = t.value; cases = t.cases })
 
 pub returns-then-separates : goal.returns-then-separates
 returns-then-separates c =
     let l : Label = record {
-      hours = c.in-ok-part.field-0;
-      minutes = c.in-ok-part-2.field-0;
-      seconds = c.in-ok-part-3.field-0;
-      frames = c.in-ok-part-4.field-0;
+      hours = c.in_ok-part.field-0;
+      minutes = c.in_ok-part-2.field-0;
+      seconds = c.in_ok-part-3.field-0;
+      frames = c.in_ok-part-4.field-0;
     } in
     let parts : Figured c.args.text.now l = record {
-      hours_are = c.in-ok-part.ensures;
-      minutes_are = c.in-ok-part-2.ensures;
-      seconds_are = c.in-ok-part-3.ensures;
-      frames_are = c.in-ok-part-4.ensures;
+      hours_are = c.in_ok-part.ensures;
+      minutes_are = c.in_ok-part-2.ensures;
+      seconds_are = c.in_ok-part-3.ensures;
+      frames_are = c.in_ok-part-4.ensures;
     } in
     let t = told_spelt c.args.self.now.format c.args.text.now l (search rules) parts (cc) in
     record { value = t.value; cases = t.cases }

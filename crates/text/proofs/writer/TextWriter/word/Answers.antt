@@ -1,5 +1,4 @@
 use Rattle.std.proofs.Common.{◌+◌, refl, ap, arith}
-use Rattle.text.specs.Decimal.{digits}
 use Rattle.text.proofs.Loans.{loan_done, loan_refused, appends_ok, appends_no}
 use Rattle.text.proofs.writer.TextWriter.word.Goals as goal
 
