@@ -1,6 +1,6 @@
 -- What moving cues by one place and one write leave of the first n places. Assumes nothing.
-use Rattle.std.proofs.Common.{◌≡◌, ℕ, suc, ◌+◌, ◌-◌, ◌<◌, ◌≤◌, min, List, [], ◌∷◌, ◌++◌, length, get_or, take, drop, set, sym, refl, ap, ◌∙◌, inl, inr, append_assoc, add-one, arith}
-use lib.Seq.{paste}
+use Rattle.std.proofs.Common.{◌≡◌, ℕ, suc, ◌+◌, ◌-◌, ◌<◌, ◌≤◌, min, List, ◌∷◌, ◌++◌, length, take, drop, set, sym, refl, ap, ◌∙◌, inl, inr, append_assoc, add-one, arith}
+use Rattle.std.proofs.Math.Seq.{paste}
 use Rattle.std.proofs.lemmas.List.{take-take, drop-take, take_at, drop_at, set_split, length-take, length-drop, length-append, take_all, take-append-le, length-take-le}
 use Rattle.std.proofs.lemmas.Bool.{cases_lt}
 use Rattle.std.proofs.lemmas.List.Edits.{take-paste}
@@ -25,7 +25,8 @@ module _ {X : Type 0} (xs : List X) where
       let joined : paste xs (i + 1) (drop i xs) (n - i) ≡ l = append_assoc (take (i + 1) xs) mid rest in
       let inside : i < length l = omega (arith, length-append (take (i + 1) xs) (mid ++ rest)) in
       let front : take i l ≡ take i xs = take-append-le i (take (i + 1) xs) (mid ++ rest) (omega arith) ∙ take-take i (i + 1) xs (omega arith) in
-      let back : drop (suc i) l ≡ mid ++ rest = rw (← add-one) (drop_at (take (i + 1) xs) (mid ++ rest) (i + 1) long) in
+      let next : suc i ≡ i + 1 = omega arith in
+      let back : drop (suc i) l ≡ mid ++ rest = ap (λ k. drop k l) next ∙ drop_at (take (i + 1) xs) (mid ++ rest) (i + 1) long in
       let split : set l i c ≡ take i xs ++ (c ∷ (mid ++ rest)) = set_split l i c inside ∙ ap (λ u. u ++ (c ∷ drop (suc i) l)) front ∙ ap (λ u. take i xs ++ (c ∷ u)) back in
       let grouped : take i xs ++ (c ∷ (mid ++ rest)) ≡ (take i xs ++ (c ∷ mid)) ++ rest = sym (append_assoc (take i xs) (c ∷ mid) rest) in
       let size : length (take i xs ++ (c ∷ mid)) ≡ n + 1 = simp (length-append, length-take, length-drop) (omega arith) in

@@ -1,11 +1,9 @@
 -- Each accepted call keeps what holds after accepted calls. Assumes nothing.
-use Rattle.std.proofs.Common.{◌≡◌, ℕ, ◌+◌, ◌-◌, ◌<◌, ◌≤◌, Bool, true, false, cond, not, ◌||◌, eqb, ltb, leb, ◌⊎◌, List, [], ◌∷◌, map, length, is_some, Some, None, filter, Option, unwrap_or, sym, refl, ap, ◌∙◌, subst, inl, inr, ⊎_elim, arith, ltb-false, ltb-true, eqb-true, leb-false}
-use borrow.Author.Tests.{eqb-false, not-false}
-use Rattle.std.proofs.lemmas.Bool.{cases_Bool, or_parts, cond-true, cond-false}
+use Rattle.std.proofs.Common.{◌≡◌, ℕ, ◌+◌, ◌-◌, ◌<◌, ◌≤◌, Bool, true, false, cond, not, eqb, ltb, leb, List, [], ◌∷◌, map, length, is_some, Some, None, filter, Option, unwrap_or, sym, refl, ap, ◌∙◌, arith, ltb-false, ltb-true, eqb-true, leb-false}
+use Rattle.std.proofs.lemmas.Bool.{eqb-false, not-false, or_parts, cond-false}
 use Rattle.std.proofs.lemmas.List.{length-append, length-map}
 use Rattle.std.specs.Option.{option_map, option_to_list}
 use Rattle.std.specs.Result.{result_ok}
-use Rattle.std.specs.List.{AllByRecursion as All}
 use Rattle.refusal.specs.declared.Refusal.{Refusal}
 use Rattle.refusal.specs.declared.Refusal.TheVariants.{NoPosition, NotWritten, CueOutOfRange, CueAlreadyIn, NoFreePlace, HeadPastEnd, NoFreeLines}
 use Rattle.timebase.specs.Meaning.{placed}
@@ -14,7 +12,7 @@ use Rattle.book.specs.Cues.{entered, numbered, struck}
 use Rattle.history.specs.declared.call.Call.{Call}
 use Rattle.history.specs.declared.call.Call.TheVariants.{Add, Strike, Seek, Play}
 use Rattle.history.specs.World.{World, and_then, sample_of}
-use Rattle.history.specs.Accepted.{head, stands, numbers_in, first, end, out_of_range, crossed, added, refusal, with_call, accepted, numbers}
+use Rattle.history.specs.Accepted.{head, stands, numbers_in, end, out_of_range, crossed, added, refusal, with_call, accepted, numbers}
 use Rattle.history.specs.Contents.{cue-of, book-of, log-of, in-play, line_of}
 use Rattle.history.proofs.Kept.{Good, Kept}
 use Rattle.history.proofs.Entries.{lacks, rising_entered, rising_struck, all_entered, all_struck}

@@ -1,10 +1,10 @@
 -- Every crossing has one line. Assumes nothing.
-use Rattle.std.proofs.Common.{◌≡◌, ℕ, suc, ◌+◌, Bool, true, false, cond, ◌&&◌, eqb, ltb, leb, List, [], ◌∷◌, ◌++◌, map, length, Some, None, Ok, Err, filter, Option, sym, refl, ap, ◌∙◌, subst, arith, eqb-true}
+use Rattle.std.proofs.Common.{◌≡◌, ℕ, suc, ◌+◌, Bool, true, false, cond, ◌&&◌, eqb, List, [], ◌∷◌, ◌++◌, map, length, Some, None, Ok, filter, Option, sym, refl, ap, ◌∙◌, arith, eqb-true}
+use Rattle.std.proofs.Math.Bool.{and-false}
 use Rattle.std.proofs.lemmas.List.Elements.{filter-append}
 use Rattle.std.proofs.lemmas.List.{length-append, length-map}
 use Rattle.std.specs.Option.{option_map, option_to_list}
 use Rattle.refusal.specs.declared.Refusal.{Refusal}
-use Rattle.timebase.specs.Meaning.{Sound}
 use Rattle.book.specs.declared.cue.Cue.{Cue}
 use Rattle.book.specs.declared.cue.Line.{Line}
 use Rattle.book.specs.Cues.{numbered}
@@ -12,16 +12,12 @@ use Rattle.history.specs.declared.call.Call.{Call}
 use Rattle.history.specs.declared.call.Call.TheVariants.{Add, Strike, Seek, Play}
 use Rattle.history.specs.World.{World, and_then, sample_of}
 use Rattle.history.specs.Accepted.{head, stands, in_block, holds_of, stands_on, crossed, refusal, with_call, accepted, crossings}
-use Rattle.history.specs.Contents.{cue-of, book-of, log-of, sample, in-play, line_of, After}
-use Rattle.history.specs.Laws.{lines_with, answered, answer, EveryCrossingIsLoggedOnce, APlayAnswersItsLines}
-use Rattle.history.proofs.Kept.{Good, Kept}
+use Rattle.history.specs.Contents.{cue-of, book-of, log-of, sample, in-play, line_of}
+use Rattle.history.specs.Laws.{lines_with, answered, EveryCrossingIsLoggedOnce, APlayAnswersItsLines}
+use Rattle.history.proofs.Kept.{Kept}
 use Rattle.history.proofs.Numbers.{kept_both, kept_same}
 use Rattle.history.proofs.Standing.{found, sample_good, crossed-is}
-use Rattle.history.proofs.Keeping.{kept_all, kept_add, kept_strike, kept_seek, kept_play}
-
-and_no : (b : Bool) → (b && false) ≡ false
-and_no true = refl
-and_no false = refl
+use Rattle.history.proofs.Keeping.{kept_all}
 
 alone : {X : Type 0} (x : X) (b : Bool) → length (cond b (x ∷ []) []) ≡ cond b 1 0
 alone x true = refl
@@ -30,7 +26,7 @@ alone x false = refl
 -- a test of t, where t is s, is a test of s
 same_sample : (test : ℕ → Bool) (t s : ℕ) (b : Bool) → eqb t s ≡ b → (test t && b) ≡ (test s && b)
 same_sample test t s true e = ap (λ m. test m && true) (eqb-true t s e)
-same_sample test t s false e = and_no (test t) ∙ sym (and_no (test s))
+same_sample test t s false e = and-false (test t) ∙ sym (and-false (test s))
 
 kept_map_step : {X Y : Type 0} (x : X) (y : Y) (xs : List X) (ys : List Y) (b : Bool) → length ys ≡ length xs → length (cond b (y ∷ ys) ys) ≡ length (cond b (x ∷ xs) xs)
 kept_map_step x y xs ys true e = ap suc e
@@ -53,7 +49,7 @@ module _ {V L : Type 0} (w : World V L) (a : List (Call V)) (k : Kept V L w a) (
   here x = in-play w (head a) n x && eqb (sample w x) s
 
   one_cue : (o : Option V) → stands c a ≡ o → length (filter here (option_to_list (option_map (cue-of w c) o))) ≡ cond (in_block (head a) n s && holds_of (and_then o (sample_of w)) (λ t. eqb t s)) 1 0
-  one_cue None is = ap (λ b. cond b 1 0) (sym (and_no (in_block (head a) n s)))
+  one_cue None is = ap (λ b. cond b 1 0) (sym (and-false (in_block (head a) n s)))
   one_cue (Some v) is =
       let x : Cue V = cue-of w c v in
       alone x (here x)

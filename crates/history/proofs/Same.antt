@@ -5,7 +5,7 @@
 --   alike           so that nothing tells them apart, now or later
 -- Assumes nothing.
 use Rattle.std.proofs.Common.{◌≡◌, ℕ, ◌+◌, ◌-◌, cond, not, eqb, ltb, leb, List, [], ◌∷◌, ◌++◌, map, is_some, Some, None, filter, Option, refl, ap, ◌∙◌, subst}
-use mathlib.Core.Path.{fun_ext}
+use Rattle.std.proofs.Math.Path.{fun_ext}
 use Rattle.refusal.specs.declared.Refusal.{Refusal}
 use Rattle.refusal.specs.declared.Refusal.TheVariants.{NoPosition, NotWritten, CueOutOfRange, CueAlreadyIn, NoFreePlace, CueNotIn, HeadPastEnd, NoFreeLines}
 use Rattle.timebase.specs.Meaning.{tally}

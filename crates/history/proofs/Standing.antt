@@ -1,25 +1,20 @@
 -- Counting the numbers that stand is counting the cues of the book. Assumes nothing.
-use Rattle.std.proofs.Common.{◌≡◌, ℕ, ◌+◌, ◌-◌, ◌<◌, ◌≤◌, Bool, true, false, cond, not, ◌||◌, eqb, ltb, leb, ◌⊎◌, List, [], ◌∷◌, map, length, is_some, Some, None, filter, Option, unwrap_or, sym, refl, ap, ◌∙◌, subst, inl, inr, ⊎_elim, arith, ltb-false, ltb-true, lt-ltb, eq-eqb, eqb-true, leb-false}
-use borrow.Author.Tests.{not-false}
-use Rattle.std.proofs.lemmas.Bool.{cases_Bool, or_parts, cond-true, cond-false}
+use Rattle.std.proofs.Common.{◌≡◌, ℕ, ◌<◌, Bool, true, false, ltb, List, [], ◌∷◌, length, is_some, Some, None, filter, Option, unwrap_or, refl, ap, ◌∙◌, subst, arith, lt-ltb}
+use Rattle.std.proofs.lemmas.Bool.{cond-true}
 use Rattle.std.proofs.ByRecursion.{all_kept_by}
-use Rattle.std.proofs.lemmas.List.{length-append, length-map}
 use Rattle.std.specs.Option.{option_map, option_to_list}
 use Rattle.std.specs.Result.{result_ok}
 use Rattle.std.specs.List.{AllByRecursion as All}
 use Rattle.refusal.specs.declared.Refusal.{Refusal}
-use Rattle.timebase.specs.Meaning.{Meaning, tally, placed}
+use Rattle.timebase.specs.Meaning.{placed}
 use Rattle.book.specs.declared.cue.Cue.{Cue}
-use Rattle.book.specs.Cues.{entered, numbered, struck}
+use Rattle.book.specs.Cues.{numbered}
 use Rattle.history.specs.declared.call.Call.{Call}
-use Rattle.history.specs.declared.call.Call.TheVariants.{Add, Strike, Seek, Play}
 use Rattle.history.specs.World.{World, and_then, sample_of}
-use Rattle.history.specs.Accepted.{head, stands, holds_of, numbers_in, first, out_of_range, stands_on, crosses, crossed, added, refusal, with_call, accepted, in_block, numbers}
-use Rattle.history.specs.Contents.{cue-of, book-of, log-of, in-play, line_of}
+use Rattle.history.specs.Accepted.{head, stands, holds_of, numbers_in, first, crosses, crossed, in_block, numbers}
+use Rattle.history.specs.Contents.{cue-of, book-of, in-play}
 use Rattle.history.proofs.Kept.{Good, Kept}
-use Rattle.history.proofs.Entries.{lacks, rising_entered, rising_struck, all_entered, all_struck}
 use Rattle.history.proofs.Numbers.{tally_same, tally_cues}
-use Rattle.history.proofs.Single.{tail, entered_other, entered_one, struck_other, struck_same}
 
 pub passed : (b : Bool) (e : Refusal) (checks : List (Bool × Refusal)) → first ((b, e) ∷ checks) ≡ None → (b ≡ false) × (first checks ≡ None)
 passed true e checks h = absurd (let z : ◌≡◌ {A = Bool} true false = cc in let y : ◌≡◌ {A = ℕ} 0 1 = cc in omega arith)

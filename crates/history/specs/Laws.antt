@@ -3,7 +3,7 @@
 --   answer       what a call answers: the lines that it added, or why it is refused
 --   played       a list of calls with plays of these counts after it, the first count first
 -- Assumes nothing.
-use Rattle.std.specs.Prelude.{◌≡◌, ℕ, ◌+◌, Bool, ◌&&◌, List, [], ◌∷◌, ◌++◌, length, Some, None, Ok, Err, sum, filter, Option, Result, ◌==◌}
+use Rattle.std.specs.Prelude.{◌≡◌, ℕ, ◌+◌, ◌&&◌, List, [], ◌∷◌, ◌++◌, length, Some, None, Ok, Err, sum, filter, Option, Result, ◌==◌}
 use Rattle.refusal.specs.declared.Refusal.{Refusal}
 use Rattle.timebase.specs.Meaning.{Sound}
 use Rattle.book.specs.declared.cue.Cue.{Cue}
@@ -15,7 +15,7 @@ use Rattle.history.specs.Accepted.{head, refusal, accepted, crossed, crossings}
 use Rattle.history.specs.Contents.{book-of, log-of, After}
 
 abbrev pub lines_with : {L : Type 0} → ℕ → ℕ → List (Line L) → ℕ
-lines_with c s ls = length (filter (λ l. (l.cue == c) && l.sample == s) ls)
+lines_with c s ls = length (filter (λ l. l.cue == c && l.sample == s) ls)
 
 abbrev pub answered : Option Refusal → ℕ → Result ℕ Refusal
 answered None n = Ok n
