@@ -3,7 +3,7 @@
 --   stands_edge     nor where locate answers 0 or the length
 --   stands_inside   elsewhere it is the position before the one located
 -- Assumes nothing.
-use Rattle.std.proofs.Common.{◌≡◌, ℕ, zero, suc, ◌+◌, ◌-◌, ◌<◌, ◌≤◌, true, false, cond, ltb, ◌⊎◌, Some, None, Option, sym, refl, ap, ◌∙◌, inl, inr, arith}
+use Rattle.std.proofs.Common.{◌≡◌, ℕ, zero, suc, ◌+◌, ◌-◌, ◌<◌, ltb, ◌⊎◌, Some, None, sym, refl, ap, ◌∙◌, inl, inr, arith}
 use Rattle.std.proofs.lemmas.Bool.{cases_lt, le-ltb, lt-ltb, cond-true, cond-false}
 use Rattle.timebase.specs.Meaning.{Meaning, Sound, Least, last_sample, located}
 use Rattle.timebase.specs.Locates.{least_located, located_least}
