@@ -6,13 +6,13 @@ use Rattle.deck.specs.Runs.{world-of}
 use Rattle.deck.proofs.Rows.{line_some, line_none, one_between}
 use Rattle.deck.proofs.state.Deck.log_one.Goals as goal
 
-pub returns-in-default-line_for : goal.returns-in-default-line_for
-returns-in-default-line_for g c =
+pub returns-in_default-line_for : goal.returns-in_default-line_for
+returns-in_default-line_for g c =
     let d = c.args.self.now in
     let w = world-of g.C.Timebase.meaning g.F.WrittenForm.number g.L.Timebase.meaning g.L.WrittenTimebase.form d in
     let x = c.in-Some.cue in
     let found = c.in-Some.ensures in
-    let past = line_none w x c.in-default-line_for.ensures in
+    let past = line_none w x c.in_default-line_for.ensures in
     record {
       books = refl;
       heads = refl;

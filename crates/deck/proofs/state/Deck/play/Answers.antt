@@ -14,12 +14,12 @@ use Rattle.deck.proofs.Rows.{end_some, end_none}
 use Rattle.deck.proofs.Steps.{refused, taken}
 use Rattle.deck.proofs.state.Deck.play.Goals as goal
 
-pub returns-in-default : goal.returns-in-default
-returns-in-default g c =
+pub returns-in_default : goal.returns-in_default
+returns-in_default g c =
     let d = c.args.self.now in
     let w = world-of g.C.Timebase.meaning g.F.WrittenForm.number g.L.Timebase.meaning g.L.WrittenTimebase.form d in
     let n = c.args.count in
-    let past = end_none d.head n c.in-default.ensures in
+    let past = end_none d.head n c.in_default.ensures in
     record {
       run = refused w d (Play n) lines_added HeadPastEnd (λ calls had. play_past w (accepted w calls) n (subst (λ x. end < x + n) had.head_is past));
       once = every_crossing_is_logged_once _ _;
