@@ -1,11 +1,8 @@
-use Rattle.std.proofs.Common.{sym, refl, ◌∙◌}
+use Rattle.std.proofs.Common.{sym, ◌∙◌}
 use Rattle.rows.proofs.Linking.{chain_on, chain_breaks, chain_ends}
 use Rattle.tempo.specs.Micros.{no_row}
 use Rattle.tempo.specs.Rules.{next_kept, last_kept}
 use Rattle.tempo.proofs.rules.all_kept.Goals as goal
-
-pub loop-next-init : goal.loop-next-init
-loop-next-init c = refl
 
 pub loop-next-preserved : goal.loop-next-preserved
 loop-next-preserved c =

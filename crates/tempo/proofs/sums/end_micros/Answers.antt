@@ -1,13 +1,9 @@
 use Rattle.std.proofs.Common.{◌≡◌, ◌+◌, ◌-◌, length, get_or, sym, ap, ◌∙◌, arith}
-use Rattle.rows.proofs.Adding.{none_before}
-use Rattle.tempo.specs.Micros.{no_row, stretch, whole_stretch, micros_before}
+use Rattle.tempo.specs.Micros.{no_row, stretch, micros_before}
 use Rattle.tempo.specs.Whole.{some_rows}
 use Rattle.tempo.specs.Found.{micros_end}
 use Rattle.tempo.proofs.Summing.{step_next, step_last, sum_next}
 use Rattle.tempo.proofs.sums.end_micros.Goals as goal
-
-pub loop-i-init : goal.loop-i-init
-loop-i-init c = sym (none_before whole_stretch c.args.rows.now)
 
 pub add_stretch-sum-requires : goal.add_stretch-sum-requires
 add_stretch-sum-requires c =

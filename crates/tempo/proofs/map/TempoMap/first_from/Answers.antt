@@ -1,13 +1,10 @@
-use Rattle.std.proofs.Common.{◌≡◌, ◌+◌, min, sym, ap, ◌∙◌, subst, arith}
+use Rattle.std.proofs.Common.{◌≡◌, ◌+◌, min, sym, ap, ◌∙◌, subst}
 use Rattle.timebase.specs.Meaning.{Least}
 use Rattle.timebase.specs.Locates.{least_agrees}
 use Rattle.tempo.specs.Maps.{map_micros, tempo_meaning}
 use Rattle.tempo.specs.Lies.{Parted}
-use Rattle.tempo.specs.Sounds.{tempo_sound, tempo_least, reach_fits}
+use Rattle.tempo.specs.Sounds.{tempo_sound, tempo_least}
 use Rattle.tempo.proofs.map.TempoMap.first_from.Goals as goal
-
-pub tick_reaching-requires : goal.tick_reaching-requires
-tick_reaching-requires c = omega (arith, c.reach.ensures, reach_fits c.args.self.now c.args.s)
 
 pub returns : goal.returns
 returns c =

@@ -1,9 +1,6 @@
 use Rattle.tempo.specs.Held.{sums_begun, sum_in}
 use Rattle.tempo.proofs.map.TempoMap.row_of_sum.Goals as goal
 
-pub overflow_sub-result : goal.overflow_sub-result
-overflow_sub-result c = (sums_begun c.args.self.now _ _ _ c.as_slice.ensures.value c.begun_by.ensures.parted).some
-
 pub returns : goal.returns
 returns c =
     let m = c.args.self.now in

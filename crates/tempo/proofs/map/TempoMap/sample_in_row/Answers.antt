@@ -1,19 +1,8 @@
 use Rattle.std.proofs.Common.{ap, ◌∙◌, arith}
 use Rattle.tempo.specs.Maps.{samples_of}
-use Rattle.tempo.specs.declared.row.TempoRow.{TempoRow}
-use Rattle.tempo.specs.Held.{in_day, kept_of}
+use Rattle.tempo.specs.Held.{in_day}
 use Rattle.tempo.proofs.Answering.{tick_value}
 use Rattle.tempo.proofs.map.TempoMap.sample_in_row.Goals as goal
-
-pub overflow_sub-p : goal.overflow_sub-p
-overflow_sub-p c = omega (arith, c.requires.0.begun, ap (λ (r : TempoRow). r.tick) c.row-row.ensures)
-
-pub overflow_mul-p : goal.overflow_mul-p
-overflow_mul-p c =
-    let m = c.args.self.now in
-    let at = tick_value m c.args.i c.args.p c.row-row.result c.sum.result
-    c.requires.0 c.row-row.ensures c.sum.ensures in
-    record { fits = omega (arith, at, in_day m c.args.p c.requires.1, (kept_of m).high) }
 
 pub sample_after-requires : goal.sample_after-requires
 sample_after-requires c =

@@ -2,9 +2,6 @@ use Rattle.std.proofs.Common.{arith}
 use Rattle.tempo.proofs.Answering.{row_some, sum_value}
 use Rattle.tempo.proofs.map.TempoMap.tick_in_row.Goals as goal
 
-pub overflow_sub-x : goal.overflow_sub-x
-overflow_sub-x c = omega (arith, c.requires.0.begun, c.sum.ensures)
-
 pub ticks_for-requires : goal.ticks_for-requires
 ticks_for-requires c =
     let m = c.args.self.now in
