@@ -1,3 +1,2 @@
-pub mod Walk
 pub mod Summing
 pub mod Answering

@@ -1,7 +1,7 @@
 -- The row of a map in which a tick, or so many microseconds times ticks, lie.
 --   TickIn    tick t lies in row i: the row has begun, and the next has not; the row's tempo is the one current there
 --   MicrosIn  x lies in row i, alike by the running sums
---   Parted     f is at least x exactly from r on
+--   Parted    f is at least x exactly from r on
 -- Assumes nothing.
 use Rattle.std.specs.Prelude.{◌≡◌, ℕ, ◌+◌, ◌<◌, ◌≤◌, length, vec_items, slice_index, slice_index_or}
 use Rattle.tempo.specs.Micros.{no_row, row_at}

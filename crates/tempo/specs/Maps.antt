@@ -5,7 +5,7 @@
 --   sum_reaching   the least so much that falls on sample s or later
 --   tempo_meaning  the meaning of a map as a timebase: a position for each tick up to the last
 --   Making         the answer to making a map: the map of just these rows, or the refusal, by the rules
---   AddsUp        the law of tempo: tick 0 lies at 0, each tick lies as far after the one before as the tempo current
+--   AddsUp         the law of tempo: tick 0 lies at 0, each tick lies as far after the one before as the tempo current
 --                  there says, and the map's fraction is its sample rate, in samples a microsecond
 -- Assumes nothing.
 use Rattle.std.specs.Prelude.{◌≡◌, ℕ, ◌+◌, ◌*◌, true, cond, ◌&&◌, List, Ok, Err, vec_items, Result}

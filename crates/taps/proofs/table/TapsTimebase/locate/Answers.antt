@@ -9,6 +9,6 @@ pub returns : goal.returns
 returns c =
     let t = c.args.self.now in
     let m = taps_meaning (vec_items t.samples) in
-    let own = sym c.as-slice.ensures.value in
-    let least : Least m c.args.s c.first-from.result = rw own c.first-from.ensures in
+    let own = sym c.as_slice.ensures.value in
+    let least : Least m c.args.s c.first_from.result = rw own c.first_from.ensures in
     record { least = least; agrees = least_agrees m (taps_sound _ t.few t.climbs) c.args.s _ least }

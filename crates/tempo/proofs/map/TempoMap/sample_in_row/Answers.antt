@@ -1,22 +1,11 @@
 use Rattle.std.proofs.Common.{ap, ◌∙◌, arith}
 use Rattle.tempo.specs.Maps.{samples_of}
-use Rattle.tempo.specs.declared.row.TempoRow.{TempoRow}
-use Rattle.tempo.specs.Held.{in_day, kept_of}
+use Rattle.tempo.specs.Held.{in_day}
 use Rattle.tempo.proofs.Answering.{tick_value}
 use Rattle.tempo.proofs.map.TempoMap.sample_in_row.Goals as goal
 
-pub overflow-sub-p : goal.overflow-sub-p
-overflow-sub-p c = omega (arith, c.requires.0.begun, ap (λ (r : TempoRow). r.tick) c.row-row.ensures)
-
-pub overflow-mul-p : goal.overflow-mul-p
-overflow-mul-p c =
-    let m = c.args.self.now in
-    let at = tick_value m c.args.i c.args.p c.row-row.result c.sum.result
-    c.requires.0 c.row-row.ensures c.sum.ensures in
-    record { fits = omega (arith, at, in_day m c.args.p c.requires.1, (kept_of m).high) }
-
-pub sample-after-requires : goal.sample-after-requires
-sample-after-requires c =
+pub sample_after-requires : goal.sample_after-requires
+sample_after-requires c =
     let m = c.args.self.now in
     let at = tick_value m c.args.i c.args.p c.row-row.result c.sum.result
     c.requires.0 c.row-row.ensures c.sum.ensures in
@@ -27,4 +16,4 @@ returns c =
     let m = c.args.self.now in
     let at = tick_value m c.args.i c.args.p c.row-row.result c.sum.result
     c.requires.0 c.row-row.ensures c.sum.ensures in
-    c.sample-after.ensures ∙ ap (samples_of m) at
+    c.sample_after.ensures ∙ ap (samples_of m) at

@@ -1,12 +1,7 @@
 use Rattle.std.proofs.Common.{◌≡◌, ◌+◌, ◌-◌, ◌*◌, ◌/◌, ap, arith}
 use Rattle.tempo.specs.Maps.{samples_of}
-use Rattle.tempo.specs.Sounds.{span_small, up_small, up_bound}
+use Rattle.tempo.specs.Sounds.{up_bound}
 use Rattle.tempo.proofs.map.TempoMap.up.Goals as goal
-
-pub overflow-add-result : goal.overflow-add-result
-overflow-add-result c =
-    let m = c.args.self.now in
-    record { fits = omega (arith, up_small m c.args.x c.requires, span_small m) }
 
 pub returns : goal.returns
 returns c =
