@@ -35,8 +35,8 @@ module _ {V : Type 0} where
     at : (d : Cue V) → (get_or cs mid d).position ≡ (get_or cs mid x).position
     at d = ap (λ y. y.position) (get_or_default cs mid d x within)
 
-    pub below-mid : (get_or cs mid x).position < p → Rising cs → Below cs p (mid + 1)
-    below-mid lt r k d h = omega (arith, rising_le cs r k mid d (omega arith) within, at d)
+    pub below_mid : (get_or cs mid x).position < p → Rising cs → Below cs p (mid + 1)
+    below_mid lt r k d h = omega (arith, rising_le cs r k mid d (omega arith) within, at d)
 
-    pub above-mid : p ≤ (get_or cs mid x).position → Rising cs → Above cs p mid
-    above-mid le r k d h inside = omega (arith, rising_le cs r mid k d h inside, at d)
+    pub above_mid : p ≤ (get_or cs mid x).position → Rising cs → Above cs p mid
+    above_mid le r k d h inside = omega (arith, rising_le cs r mid k d h inside, at d)

@@ -58,8 +58,8 @@ module _ {X : Type 0} (xs : List X) where
     used = simp length-take (omega arith)
 
     module _ (i : ℕ) (moved : List X) where
-      pub after-insert : (c : X) → i ≤ n → n < length xs → moved ≡ paste xs (i + 1) (drop i xs) (n - i) → take (n + 1) (set moved i c) ≡ insert (take len xs) i c
-      after-insert c le within shifted = ap (λ u. take (n + 1) (set u i c)) shifted ∙ moved_up i n c le within ∙ ap (λ u. insert u i c) in_use
+      pub after_insert : (c : X) → i ≤ n → n < length xs → moved ≡ paste xs (i + 1) (drop i xs) (n - i) → take (n + 1) (set moved i c) ≡ insert (take len xs) i c
+      after_insert c le within shifted = ap (λ u. take (n + 1) (set u i c)) shifted ∙ moved_up i n c le within ∙ ap (λ u. insert u i c) in_use
 
-      pub after-remove : i < n → moved ≡ paste xs i (drop (i + 1) xs) (n - (i + 1)) → take (n - 1) moved ≡ remove (take len xs) i
-      after-remove lt shifted = ap (take (n - 1)) shifted ∙ moved_down i n lt (omega arith) ∙ ap (λ u. remove u i) in_use
+      pub after_remove : i < n → moved ≡ paste xs i (drop (i + 1) xs) (n - (i + 1)) → take (n - 1) moved ≡ remove (take len xs) i
+      after_remove lt shifted = ap (take (n - 1)) shifted ∙ moved_down i n lt (omega arith) ∙ ap (λ u. remove u i) in_use

@@ -13,10 +13,10 @@ use Rattle.history.specs.declared.call.Call.{Call}
 use Rattle.history.specs.declared.call.Call.TheVariants.{Add, Strike}
 use Rattle.history.specs.World.{World, and_then, sample_of}
 use Rattle.history.specs.Accepted.{stands, numbers_in, first, out_of_range, refusal}
-use Rattle.history.specs.Contents.{cue-of, book-of}
+use Rattle.history.specs.Contents.{cue_of, book_of}
 use Rattle.history.proofs.Kept.{Kept}
 use Rattle.deck.specs.Blocks.{position_of}
-use Rattle.history.proofs.Standing.{numbers-in-is}
+use Rattle.history.proofs.Standing.{numbers_in_is}
 
 -- a list has a cue of a number where the cues of that number are some
 any : {X : Type 0} → List X → Bool
@@ -68,31 +68,31 @@ at_err (Some q) len why e = by-test (ltb q len) refl e
     by-test false t is = inr (q, refl, ltb-false q len t, cc)
 
 module _ {V W : Type 0} (w : World V W) (a : List (Call V)) (k : Kept V W w a) where
-  pub has_stands : (n : ℕ) → has n (book-of w a) ≡ is_some (stands n a)
-  has_stands n = has_any n (book-of w a) ∙ ap any (k.only n) ∙ any_one (cue-of w n) (stands n a)
+  pub has_stands : (n : ℕ) → has n (book_of w a) ≡ is_some (stands n a)
+  has_stands n = has_any n (book_of w a) ∙ ap any (k.only n) ∙ any_one (cue_of w n) (stands n a)
 
   -- the five checks of an add, as answers to five questions
   abbrev checked : Bool → Bool → Bool → Bool → Bool → Option Refusal
   checked range held bad past full = first ((range, CueOutOfRange) ∷ (held, CueAlreadyIn) ∷ (bad, NotWritten) ∷ (past, NoPosition) ∷ (full, NoFreePlace) ∷ [])
 
   module _ (n : ℕ) (v : V) where
-    asked : (range held bad past full : Bool) → out_of_range n ≡ range → has n (book-of w a) ≡ held → not (is_some (w.number v)) ≡ bad → not (is_some (sample_of w v)) ≡ past
-        → leb w.places (length (book-of w a)) ≡ full → refusal w a (Add n v) ≡ checked range held bad past full
+    asked : (range held bad past full : Bool) → out_of_range n ≡ range → has n (book_of w a) ≡ held → not (is_some (w.number v)) ≡ bad → not (is_some (sample_of w v)) ≡ past
+        → leb w.places (length (book_of w a)) ≡ full → refusal w a (Add n v) ≡ checked range held bad past full
     asked range held bad past full e1 e2 e3 e4 e5 =
         ap (λ b. checked b (is_some (stands n a)) (not (is_some (w.number v))) (not (is_some (sample_of w v))) (leb w.places (numbers_in a))) e1
         ∙ ap (λ b. checked range b (not (is_some (w.number v))) (not (is_some (sample_of w v))) (leb w.places (numbers_in a))) (sym (has_stands n) ∙ e2)
         ∙ ap (λ b. checked range held b (not (is_some (sample_of w v))) (leb w.places (numbers_in a))) e3
         ∙ ap (λ b. checked range held bad b (leb w.places (numbers_in a))) e4
-        ∙ ap (λ b. checked range held bad past b) (ap (leb w.places) (numbers-in-is w a k) ∙ e5)
+        ∙ ap (λ b. checked range held bad past b) (ap (leb w.places) (numbers_in_is w a k) ∙ e5)
 
-    pub add-range : out_of_range n ≡ true → refusal w a (Add n v) ≡ Some CueOutOfRange
-    add-range e = asked true _ _ _ _ e refl refl refl refl
+    pub add_range : out_of_range n ≡ true → refusal w a (Add n v) ≡ Some CueOutOfRange
+    add_range e = asked true _ _ _ _ e refl refl refl refl
 
-    pub add-in : out_of_range n ≡ false → has n (book-of w a) ≡ true → refusal w a (Add n v) ≡ Some CueAlreadyIn
-    add-in e1 e2 = asked false true _ _ _ e1 e2 refl refl refl
+    pub add_in : out_of_range n ≡ false → has n (book_of w a) ≡ true → refusal w a (Add n v) ≡ Some CueAlreadyIn
+    add_in e1 e2 = asked false true _ _ _ e1 e2 refl refl refl
 
-    pub add-bad : out_of_range n ≡ false → has n (book-of w a) ≡ false → w.number v ≡ None → refusal w a (Add n v) ≡ Some NotWritten
-    add-bad e1 e2 e3 = asked false false true _ _ e1 e2 (ap (λ o. not (is_some o)) e3) refl refl
+    pub add_bad : out_of_range n ≡ false → has n (book_of w a) ≡ false → w.number v ≡ None → refusal w a (Add n v) ≡ Some NotWritten
+    add_bad e1 e2 e3 = asked false false true _ _ e1 e2 (ap (λ o. not (is_some o)) e3) refl refl
 
     module _ (p : ℕ) (is : w.number v ≡ Some p) where
       sampled : sample_of w v ≡ result_ok (placed w.cues p)
@@ -104,28 +104,28 @@ module _ {V W : Type 0} (w : World V W) (a : List (Call V)) (k : Kept V W w a) w
       within : p < w.cues.len → not (is_some (sample_of w v)) ≡ false
       within lt = ap (λ o. not (is_some o)) (sampled ∙ ap result_ok (cond-true (ltb p w.cues.len) _ _ (lt-ltb p w.cues.len lt)))
 
-      pub add-past : out_of_range n ≡ false → has n (book-of w a) ≡ false → w.cues.len ≤ p → refusal w a (Add n v) ≡ Some NoPosition
-      add-past e1 e2 le = asked false false false true _ e1 e2 (ap (λ o. not (is_some o)) is) (past_end le) refl
+      pub add_past : out_of_range n ≡ false → has n (book_of w a) ≡ false → w.cues.len ≤ p → refusal w a (Add n v) ≡ Some NoPosition
+      add_past e1 e2 le = asked false false false true _ e1 e2 (ap (λ o. not (is_some o)) is) (past_end le) refl
 
-      pub add-full : out_of_range n ≡ false → has n (book-of w a) ≡ false → p < w.cues.len → w.places ≤ length (book-of w a) → refusal w a (Add n v) ≡ Some NoFreePlace
-      add-full e1 e2 lt le = asked false false false false true e1 e2 (ap (λ o. not (is_some o)) is) (within lt) (le-leb _ _ le)
+      pub add_full : out_of_range n ≡ false → has n (book_of w a) ≡ false → p < w.cues.len → w.places ≤ length (book_of w a) → refusal w a (Add n v) ≡ Some NoFreePlace
+      add_full e1 e2 lt le = asked false false false false true e1 e2 (ap (λ o. not (is_some o)) is) (within lt) (le-leb _ _ le)
 
-      pub add-passes : out_of_range n ≡ false → has n (book-of w a) ≡ false → p < w.cues.len → length (book-of w a) < w.places → refusal w a (Add n v) ≡ None
-      add-passes e1 e2 lt le = asked false false false false false e1 e2 (ap (λ o. not (is_some o)) is) (within lt) (lt-leb _ _ le)
+      pub add_passes : out_of_range n ≡ false → has n (book_of w a) ≡ false → p < w.cues.len → length (book_of w a) < w.places → refusal w a (Add n v) ≡ None
+      add_passes e1 e2 lt le = asked false false false false false e1 e2 (ap (λ o. not (is_some o)) is) (within lt) (lt-leb _ _ le)
 
   -- the two checks of a strike
   module _ (n : ℕ) where
-    struck-by : (range held : Bool) → out_of_range n ≡ range → has n (book-of w a) ≡ held
+    struck-by : (range held : Bool) → out_of_range n ≡ range → has n (book_of w a) ≡ held
         → refusal w a (Strike n) ≡ first ((range, CueOutOfRange) ∷ (not held, CueNotIn) ∷ [])
     struck-by range held e1 e2 =
         ap (λ b. first ((b, CueOutOfRange) ∷ (not (is_some (stands n a)), CueNotIn) ∷ [])) e1
         ∙ ap (λ b. first ((range, CueOutOfRange) ∷ (not b, CueNotIn) ∷ [])) (sym (has_stands n) ∙ e2)
 
-    pub strike-range : out_of_range n ≡ true → refusal w a (Strike n) ≡ Some CueOutOfRange
-    strike-range e = struck-by true _ e refl
+    pub strike_range : out_of_range n ≡ true → refusal w a (Strike n) ≡ Some CueOutOfRange
+    strike_range e = struck-by true _ e refl
 
-    pub strike-out : out_of_range n ≡ false → has n (book-of w a) ≡ false → refusal w a (Strike n) ≡ Some CueNotIn
-    strike-out e1 e2 = struck-by false false e1 e2
+    pub strike_out : out_of_range n ≡ false → has n (book_of w a) ≡ false → refusal w a (Strike n) ≡ Some CueNotIn
+    strike_out e1 e2 = struck-by false false e1 e2
 
-    pub strike-passes : out_of_range n ≡ false → has n (book-of w a) ≡ true → refusal w a (Strike n) ≡ None
-    strike-passes e1 e2 = struck-by false true e1 e2
+    pub strike_passes : out_of_range n ≡ false → has n (book_of w a) ≡ true → refusal w a (Strike n) ≡ None
+    strike_passes e1 e2 = struck-by false true e1 e2

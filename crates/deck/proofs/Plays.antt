@@ -13,12 +13,12 @@ use Rattle.history.specs.declared.call.Call.{Call}
 use Rattle.history.specs.declared.call.Call.TheVariants.{Play}
 use Rattle.history.specs.World.{World}
 use Rattle.history.specs.Accepted.{head, first, end, crossed, added, refusal, accepted}
-use Rattle.history.specs.Contents.{book-of, log-of, in-play, line_of, After}
+use Rattle.history.specs.Contents.{book_of, log_of, in_play, line_of, After}
 use Rattle.history.proofs.Kept.{Good, Kept}
 use Rattle.history.proofs.Keeping.{kept_all}
-use Rattle.history.proofs.Standing.{crossed-is}
+use Rattle.history.proofs.Standing.{crossed_is}
 use Rattle.deck.specs.declared.state.Deck.{Deck}
-use Rattle.deck.specs.Runs.{Has-had, Keeps, Logs}
+use Rattle.deck.specs.Runs.{HasHad, Keeps, Logs}
 use Rattle.deck.proofs.Ranges.{ordered, crossed_row}
 use Rattle.deck.proofs.Steps.{Accepts}
 
@@ -42,7 +42,7 @@ module _ {V W : Type 0} (w : World V W) (a : List (Call V)) (n : ℕ) where
 module _ {C F L V W : Type 0} (w : World V W) (sound : Sound w.cues) (d : Deck C F L V W) (n lo hi f u : ℕ)
     (low : Least w.cues d.head lo) (high : Least w.cues (d.head + n) hi)
     (from : Rising (cues d.book) → Splits V (cues d.book) lo f) (to : Rising (cues d.book) → Splits V (cues d.book) hi u)
-    (calls : List (Call V)) (had : Has-had w calls d) where
+    (calls : List (Call V)) (had : HasHad w calls d) where
   abbrev past : List (Call V)
   past = accepted w calls
 
@@ -55,14 +55,14 @@ module _ {C F L V W : Type 0} (w : World V W) (sound : Sound w.cues) (d : Deck C
   good : All (Good V W w) (cues d.book)
   good = subst (All (Good V W w)) (sym had.cues_are) kept.good
 
-  pub row : filter (in-play w (head past) n) (book-of w past) ≡ between f u (cues d.book)
+  pub row : filter (in_play w (head past) n) (book_of w past) ≡ between f u (cues d.book)
   row =
-      ap (λ h. filter (in-play w h n) (book-of w past)) (sym had.head_is)
-      ∙ ap (filter (in-play w d.head n)) (sym had.cues_are)
+      ap (λ h. filter (in_play w h n) (book_of w past)) (sym had.head_is)
+      ∙ ap (filter (in_play w d.head n)) (sym had.cues_are)
       ∙ crossed_row w sound (cues d.book) good d.head n lo hi f u low high (from rises) (to rises)
 
   pub crosses : crossed w past n ≡ u - f
-  crosses = crossed-is w past kept n ∙ ap length row ∙ length-between (cues d.book) f u (to rises).inside
+  crosses = crossed_is w past kept n ∙ ap length row ∙ length-between (cues d.book) f u (to rises).inside
 
   pub used : length (lines d.log) ≡ added w past
   used = ap length had.lines_are ∙ kept.long
@@ -93,5 +93,5 @@ module _ {C F L V W : Type 0} (w : World V W) (sound : Sound w.cues) (d : Deck C
       count = crosses ∙ sym counts;
       heads = is ∙ ap (λ h. h + n) had.head_is;
       books = ap cues logged.books ∙ had.cues_are;
-      logs = appended ∙ ap (λ ls. ls ++ map (line_of w) (between f u (cues d.book))) had.lines_are ∙ ap (λ ys. log-of w past ++ map (line_of w) ys) (sym row);
+      logs = appended ∙ ap (λ ls. ls ++ map (line_of w) (between f u (cues d.book))) had.lines_are ∙ ap (λ ys. log_of w past ++ map (line_of w) ys) (sym row);
     }

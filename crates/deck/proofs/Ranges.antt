@@ -11,7 +11,7 @@ use Rattle.book.specs.declared.cue.Cue.{Cue}
 use Rattle.book.specs.Cues.{Splits}
 use Rattle.history.specs.World.{World}
 use Rattle.history.specs.Accepted.{in_block}
-use Rattle.history.specs.Contents.{sample, in-play}
+use Rattle.history.specs.Contents.{sample, in_play}
 use Rattle.history.proofs.Kept.{Good}
 
 module _ {X : Type 0} (t : X → Bool) where
@@ -69,21 +69,21 @@ module _ {V W : Type 0} (w : World V W) (sound : Sound w.cues) (book : List (Cue
     within : at < w.cues.len
     within = (All-get_or (Good V W w) book k d inside good).inside
 
-    pub too-early : k < f → in-play w h n (get_or book k d) ≡ false
-    too-early l =
+    pub too_early : k < f → in_play w h n (get_or book k d) ≡ false
+    too_early l =
         let below = from.below k d l in
         let agree = (least_agrees w.cues sound h lo first at within).1 in
         let early : w.cues.rule at < h = elim (cases_lt (w.cues.rule at) h) [ inl x ↦ x | inr x ↦ absurd (let y = agree x in omega arith) ] in
         and_left (leb h (w.cues.rule at)) _ (lt-leb _ _ early)
 
-    pub too-late : u ≤ k → in-play w h n (get_or book k d) ≡ false
-    too-late l =
+    pub too_late : u ≤ k → in_play w h n (get_or book k d) ≡ false
+    too_late l =
         let above = to.above k d l inside in
         let late : h + n ≤ w.cues.rule at = (least_agrees w.cues sound (h + n) hi last at within).0 above in
         and_right (leb h (w.cues.rule at)) _ (le-ltb _ _ late)
 
-    pub in-time : f ≤ k → k < u → in-play w h n (get_or book k d) ≡ true
-    in-time a b =
+    pub in_time : f ≤ k → k < u → in_play w h n (get_or book k d) ≡ true
+    in_time a b =
         let above = from.above k d a inside in
         let below = to.below k d b in
         let reached : h ≤ w.cues.rule at = (least_agrees w.cues sound h lo first at within).0 above in
@@ -91,11 +91,11 @@ module _ {V W : Type 0} (w : World V W) (sound : Sound w.cues) (book : List (Cue
         let before : w.cues.rule at < h + n = elim (cases_lt (w.cues.rule at) (h + n)) [ inl x ↦ x | inr x ↦ absurd (let y = agree x in omega arith) ] in
         and_from _ _ (le-leb _ _ reached) (lt-ltb _ _ before)
 
-  pub crossed_row : filter (in-play w h n) book ≡ between f u book
+  pub crossed_row : filter (in_play w h n) book ≡ between f u book
   crossed_row =
       let o = ordered in
       let i = to.inside in
-      kept_row (in-play w h n) book f (u - f) (omega arith)
-      (λ k d l. too-early k d (omega arith) l)
-      (λ k d a b. in-time k d (omega arith) a (omega arith))
-      (λ k d a b. too-late k d b (omega arith))
+      kept_row (in_play w h n) book f (u - f) (omega arith)
+      (λ k d l. too_early k d (omega arith) l)
+      (λ k d a b. in_time k d (omega arith) a (omega arith))
+      (λ k d a b. too_late k d b (omega arith))

@@ -14,7 +14,7 @@ use Rattle.history.specs.Accepted.{end}
 use Rattle.history.specs.Contents.{line_of}
 use Rattle.deck.specs.declared.state.Deck.{Deck}
 use Rattle.deck.specs.Blocks.{block_end, line_for}
-use Rattle.deck.specs.Runs.{world-of, Keeps, Logs}
+use Rattle.deck.specs.Runs.{world_of, Keeps, Logs}
 use Rattle.deck.proofs.Ranges.{one_of}
 
 some_step : {X : Type 0} (x y : X) (b : Bool) → Some x ≡ cond b (Some y) None → x ≡ y
@@ -94,7 +94,7 @@ module _ {C F L V W : Type 0} where
 
   -- two decks with the same piles, form and memory read calls alike
   pub same_world : (pile : C → Meaning) (number : F → V → Option ℕ) (frames : L → Meaning) (form : L → ℕ → Option W) (d e : Deck C F L V W) → Keeps d e
-      → world-of pile number frames form e ≡ world-of pile number frames form d
+      → world_of pile number frames form e ≡ world_of pile number frames form d
   same_world pile number frames form d e k =
       ap (λ x. record { cues = pile x; number = number e.form; label = current_at (frames e.frames) (form e.frames); places = room e.book; lines = log_room e.log }) k.piles
       ∙ ap (λ x. record { cues = pile d.pile; number = number x; label = current_at (frames e.frames) (form e.frames); places = room e.book; lines = log_room e.log }) k.forms

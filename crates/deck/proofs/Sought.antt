@@ -11,18 +11,18 @@ use Rattle.book.specs.Cues.{numbered, Splits}
 use Rattle.history.specs.declared.call.Call.{Call}
 use Rattle.history.specs.World.{World, and_then, sample_of}
 use Rattle.history.specs.Accepted.{stands, stands_on}
-use Rattle.history.specs.Contents.{cue-of, book-of, in-play}
+use Rattle.history.specs.Contents.{cue_of, book_of, in_play}
 use Rattle.history.proofs.Kept.{Good, Kept}
 use Rattle.history.proofs.Standing.{found, sample_good}
-use Rattle.deck.proofs.Ranges.{too-early, too-late, in-time}
+use Rattle.deck.proofs.Ranges.{too_early, too_late, in_time}
 
 -- a block of the sample s alone crosses s and no other
-only_sample : {V W : Type 0} (w : World V W) (s : ℕ) (x : Cue V) → in-play w s 1 x ≡ true → w.cues.rule x.position ≡ s
+only_sample : {V W : Type 0} (w : World V W) (s : ℕ) (x : Cue V) → in_play w s 1 x ≡ true → w.cues.rule x.position ≡ s
 only_sample w s x e =
     let p = and_parts (leb s (w.cues.rule x.position)) (ltb (w.cues.rule x.position) (s + 1)) e in
     omega (arith, leb-true s (w.cues.rule x.position) p.0, ltb-true (w.cues.rule x.position) (s + 1) p.1)
 
-its_sample : {V W : Type 0} (w : World V W) (s : ℕ) (x : Cue V) → w.cues.rule x.position ≡ s → in-play w s 1 x ≡ true
+its_sample : {V W : Type 0} (w : World V W) (s : ℕ) (x : Cue V) → w.cues.rule x.position ≡ s → in_play w s 1 x ≡ true
 its_sample w s x e =
     let y : ℕ = w.cues.rule x.position in
     and_from (leb s y) (ltb y (s + 1)) (le-leb s y (omega arith)) (lt-ltb y (s + 1) (omega arith))
@@ -39,61 +39,61 @@ at_kept t P (x ∷ xs) (suc k) d inside is all = at_kept t P xs k d (omega arith
     rest false h = h
 
 module _ {V W : Type 0} (w : World V W) (a : List (Call V)) (k : Kept V W w a) (s : ℕ) where
-  own_cue : (c : ℕ) (o : Option V) → stands c a ≡ o → All (λ x. stands c a ≡ Some x.at) (option_to_list (option_map (cue-of w c) o))
+  own_cue : (c : ℕ) (o : Option V) → stands c a ≡ o → All (λ x. stands c a ≡ Some x.at) (option_to_list (option_map (cue_of w c) o))
   own_cue c None is = tt
   own_cue c (Some v) is = (is, tt)
 
   -- a cue of the book on the sample stands there
-  pub on_sample : (i : ℕ) (d : Cue V) → i < length (book-of w a) → in-play w s 1 (get_or (book-of w a) i d) ≡ true
-      → stands_on w (get_or (book-of w a) i d).number a ≡ Some s
+  pub on_sample : (i : ℕ) (d : Cue V) → i < length (book_of w a) → in_play w s 1 (get_or (book_of w a) i d) ≡ true
+      → stands_on w (get_or (book_of w a) i d).number a ≡ Some s
   on_sample i d inside crossed =
-      let x : Cue V = get_or (book-of w a) i d in
-      let good : Good V W w x = All-get_or (Good V W w) (book-of w a) i d inside k.good in
+      let x : Cue V = get_or (book_of w a) i d in
+      let good : Good V W w x = All-get_or (Good V W w) (book_of w a) i d inside k.good in
       let c : ℕ = x.number in
-      let own : All (λ y. stands c a ≡ Some y.at) (filter (numbered c) (book-of w a))
+      let own : All (λ y. stands c a ≡ Some y.at) (filter (numbered c) (book_of w a))
       = subst (All (λ y. stands c a ≡ Some y.at)) (sym (k.only c)) (own_cue c (stands c a) refl) in
-      let is : stands c a ≡ Some x.at = at_kept (numbered c) (λ y. stands c a ≡ Some y.at) (book-of w a) i d inside (eq-eqb c c refl) own in
+      let is : stands c a ≡ Some x.at = at_kept (numbered c) (λ y. stands c a ≡ Some y.at) (book_of w a) i d inside (eq-eqb c c refl) own in
       ap (λ o. and_then o (sample_of w)) is ∙ sample_good w x good ∙ ap Some (only_sample w s x crossed)
 
   -- where no cue of the book is on the sample, no number stands there
-  pub none_on : All (λ x. in-play w s 1 x ≡ false) (book-of w a) → (c : ℕ) → stands_on w c a ≡ Some s → ⊥
+  pub none_on : All (λ x. in_play w s 1 x ≡ false) (book_of w a) → (c : ℕ) → stands_on w c a ≡ Some s → ⊥
   none_on none c on = by_value (stands c a) refl
     where
       by_value : (o : Option V) → stands c a ≡ o → ⊥
       by_value None is = let z : None ≡ Some s = sym (ap (λ o. and_then o (sample_of w)) is) ∙ on in let y : ◌≡◌ {A = ℕ} 0 1 = cc in omega arith
       by_value (Some v) is =
-          let good : Good V W w (cue-of w c v) = found w a k c v is in
-          let one : filter (numbered c) (book-of w a) ≡ cue-of w c v ∷ [] = k.only c ∙ ap (λ o. option_to_list (option_map (cue-of w c) o)) is in
-          let off : in-play w s 1 (cue-of w c v) ≡ false = (subst (All (λ x. in-play w s 1 x ≡ false)) one (all_kept_by (numbered c) (λ x. in-play w s 1 x ≡ false) (book-of w a) none)).0 in
-          let at : Some (w.cues.rule (cue-of w c v).position) ≡ Some s = sym (sample_good w (cue-of w c v) good) ∙ sym (ap (λ o. and_then o (sample_of w)) is) ∙ on in
-          both_ways (in-play w s 1 (cue-of w c v)) off (its_sample w s (cue-of w c v) (cc))
+          let good : Good V W w (cue_of w c v) = found w a k c v is in
+          let one : filter (numbered c) (book_of w a) ≡ cue_of w c v ∷ [] = k.only c ∙ ap (λ o. option_to_list (option_map (cue_of w c) o)) is in
+          let off : in_play w s 1 (cue_of w c v) ≡ false = (subst (All (λ x. in_play w s 1 x ≡ false)) one (all_kept_by (numbered c) (λ x. in_play w s 1 x ≡ false) (book_of w a) none)).0 in
+          let at : Some (w.cues.rule (cue_of w c v).position) ≡ Some s = sym (sample_good w (cue_of w c v) good) ∙ sym (ap (λ o. and_then o (sample_of w)) is) ∙ on in
+          both_ways (in_play w s 1 (cue_of w c v)) off (its_sample w s (cue_of w c v) (cc))
 
   -- the row of the sample, from what the halvings answer
   module _ (sound : Sound w.cues) (lo hi f u : ℕ) (first : Least w.cues s lo) (last : Least w.cues (s + 1) hi)
-      (from : Splits V (book-of w a) lo f) (to : Splits V (book-of w a) hi u) where
-    pub first_found : (d : Cue V) → f < u → stands_on w (get_or (book-of w a) f d).number a ≡ Some s
+      (from : Splits V (book_of w a) lo f) (to : Splits V (book_of w a) hi u) where
+    pub first_found : (d : Cue V) → f < u → stands_on w (get_or (book_of w a) f d).number a ≡ Some s
     first_found d some =
         let i = to.inside in
-        on_sample f d (omega arith) (in-time w sound (book-of w a) k.good s 1 lo hi f u first last from to f d (omega arith) (omega arith) some)
+        on_sample f d (omega arith) (in_time w sound (book_of w a) k.good s 1 lo hi f u first last from to f d (omega arith) (omega arith) some)
 
     pub none_found : u ≤ f → (c : ℕ) → stands_on w c a ≡ Some s → ⊥
-    none_found empty = none_on (every-off (book-of w a) refl)
+    none_found empty = none_on (every-off (book_of w a) refl)
       where
-        every-off : (cs : List (Cue V)) → book-of w a ≡ cs → All (λ x. in-play w s 1 x ≡ false) (book-of w a)
+        every-off : (cs : List (Cue V)) → book_of w a ≡ cs → All (λ x. in_play w s 1 x ≡ false) (book_of w a)
         every-off [] is = rw is tt
-        every-off (x ∷ xs) is = All-from_get_or (λ y. in-play w s 1 y ≡ false) (book-of w a) x (λ i inside. off i x inside)
+        every-off (x ∷ xs) is = All-from_get_or (λ y. in_play w s 1 y ≡ false) (book_of w a) x (λ i inside. off i x inside)
           where
-            off : (i : ℕ) (d : Cue V) → i < length (book-of w a) → in-play w s 1 (get_or (book-of w a) i d) ≡ false
+            off : (i : ℕ) (d : Cue V) → i < length (book_of w a) → in_play w s 1 (get_or (book_of w a) i d) ≡ false
             off i d inside = elim (cases_lt i f) [
-              | inl l ↦ too-early w sound (book-of w a) k.good s 1 lo hi f u first last from to i d inside l
-              | inr l ↦ too-late w sound (book-of w a) k.good s 1 lo hi f u first last from to i d inside (omega arith)
+              | inl l ↦ too_early w sound (book_of w a) k.good s 1 lo hi f u first last from to i d inside l
+              | inr l ↦ too_late w sound (book_of w a) k.good s 1 lo hi f u first last from to i d inside (omega arith)
             ]
 
   -- past the last sample no number stands
   pub none_past : Sound w.cues → 68719476735 < s → (c : ℕ) → stands_on w c a ≡ Some s → ⊥
-  none_past sound past = none_on (all-off (book-of w a) k.good)
+  none_past sound past = none_on (all-off (book_of w a) k.good)
     where
-      all-off : (xs : List (Cue V)) → All (Good V W w) xs → All (λ x. in-play w s 1 x ≡ false) xs
+      all-off : (xs : List (Cue V)) → All (Good V W w) xs → All (λ x. in_play w s 1 x ≡ false) xs
       all-off [] good = tt
       all-off (x ∷ xs) good = (
         (let within = sound.within x.position good.0.inside in and_left (leb s (w.cues.rule x.position)) _ (lt-leb _ _ (omega arith))),

@@ -5,10 +5,10 @@ use Rattle.book.specs.Held.{cues, lines}
 use Rattle.history.specs.declared.call.Call.{Call}
 use Rattle.history.specs.World.{World}
 use Rattle.history.specs.Accepted.{head, refusal, with_call, accepted}
-use Rattle.history.specs.Contents.{book-of, log-of, After}
+use Rattle.history.specs.Contents.{book_of, log_of, After}
 use Rattle.history.specs.Laws.{answered, answer, lines_by}
 use Rattle.deck.specs.declared.state.Deck.{Deck}
-use Rattle.deck.specs.Runs.{Has-had, Keeps, Taken}
+use Rattle.deck.specs.Runs.{HasHad, Keeps, Taken}
 
 module _ {C F L V W R : Type 0} (w : World V W) (d : Deck C F L V W) (call : Call V) (told : Result ℕ Refusal → Result R Refusal) where
   pub keeps_all : Keeps d d
@@ -16,20 +16,20 @@ module _ {C F L V W R : Type 0} (w : World V W) (d : Deck C F L V W) (call : Cal
 
   -- a refusal may move memory, and changes nothing that can be read
   pub refused_by : (e : Deck C F L V W) (why : Refusal) → e.head ≡ d.head → cues e.book ≡ cues d.book → lines e.log ≡ lines d.log → Keeps d e
-      → ((calls : List (Call V)) → Has-had w calls d → refusal w (accepted w calls) call ≡ Some why) → Taken R w d e call told (told (Err why))
+      → ((calls : List (Call V)) → HasHad w calls d → refusal w (accepted w calls) call ≡ Some why) → Taken R w d e call told (told (Err why))
   refused_by e why heads books logs keeps checks = record {
     says = λ calls had. ap (λ o. told (answered o (lines_by w (accepted w calls) call))) (sym (checks calls had));
     leaves = λ calls had.
         let stays : accepted w calls ≡ accepted w (call ∷ calls) = ap (λ o. with_call w o call (accepted w calls)) (sym (checks calls had)) in
         record {
           head_is = heads ∙ had.head_is ∙ ap head stays;
-          cues_are = books ∙ had.cues_are ∙ ap (book-of w) stays;
-          lines_are = logs ∙ had.lines_are ∙ ap (log-of w) stays;
+          cues_are = books ∙ had.cues_are ∙ ap (book_of w) stays;
+          lines_are = logs ∙ had.lines_are ∙ ap (log_of w) stays;
         };
     keeps = keeps;
   }
 
-  pub refused : (why : Refusal) → ((calls : List (Call V)) → Has-had w calls d → refusal w (accepted w calls) call ≡ Some why) → Taken R w d d call told (told (Err why))
+  pub refused : (why : Refusal) → ((calls : List (Call V)) → HasHad w calls d → refusal w (accepted w calls) call ≡ Some why) → Taken R w d d call told (told (Err why))
   refused why checks = refused_by d why refl refl refl keeps_all checks
 
   -- what is known of an accepted call and of the deck that it leaves, given the calls before it
@@ -37,10 +37,10 @@ module _ {C F L V W R : Type 0} (w : World V W) (d : Deck C F L V W) (call : Cal
     pub passes : refusal w a call ≡ None
     pub count : lines_by w a call ≡ k
     pub heads : e.head ≡ head (call ∷ a)
-    pub books : cues e.book ≡ book-of w (call ∷ a)
-    pub logs : lines e.log ≡ log-of w (call ∷ a)
+    pub books : cues e.book ≡ book_of w (call ∷ a)
+    pub logs : lines e.log ≡ log_of w (call ∷ a)
 
-  pub taken : (e : Deck C F L V W) (k : ℕ) → ((calls : List (Call V)) → Has-had w calls d → Accepts e k (accepted w calls)) → Keeps d e → Taken R w d e call told (told (Ok k))
+  pub taken : (e : Deck C F L V W) (k : ℕ) → ((calls : List (Call V)) → HasHad w calls d → Accepts e k (accepted w calls)) → Keeps d e → Taken R w d e call told (told (Ok k))
   taken e k known same = record {
     says = λ calls had.
         let ok = known calls had in
@@ -50,8 +50,8 @@ module _ {C F L V W R : Type 0} (w : World V W) (d : Deck C F L V W) (call : Cal
         let more : call ∷ accepted w calls ≡ accepted w (call ∷ calls) = ap (λ o. with_call w o call (accepted w calls)) (sym ok.passes) in
         record {
           head_is = ok.heads ∙ ap head more;
-          cues_are = ok.books ∙ ap (book-of w) more;
-          lines_are = ok.logs ∙ ap (log-of w) more;
+          cues_are = ok.books ∙ ap (book_of w) more;
+          lines_are = ok.logs ∙ ap (log_of w) more;
         };
     keeps = same;
   }

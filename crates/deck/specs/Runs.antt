@@ -1,6 +1,6 @@
 -- A deck by the calls that it has had since power-up.
---   world-of   what a deck's calls are read with: its piles, its form and its memory
---   Has-had    the deck is as these calls leave it
+--   world_of   what a deck's calls are read with: its piles, its form and its memory
+--   HasHad    the deck is as these calls leave it
 --   Keeps      piles, form and memory stay as they were
 --   Logs       a row of the book put to the log
 --   Taken      a call takes a deck that has had some calls to one that has had this call too, and answers by them
@@ -19,8 +19,8 @@ use Rattle.history.specs.Laws.{answer}
 use Rattle.deck.specs.declared.state.Deck.{Deck}
 
 module _ {C F L V W : Type 0} (pile : C → Meaning) (number : F → V → Option ℕ) (frames : L → Meaning) (form : L → ℕ → Option W) where
-  abbrev pub world-of : Deck C F L V W → World V W
-  world-of d = record {
+  abbrev pub world_of : Deck C F L V W → World V W
+  world_of d = record {
     cues = pile d.pile;
     number = number d.form;
     label = current_at (frames d.frames) (form d.frames);
@@ -29,8 +29,8 @@ module _ {C F L V W : Type 0} (pile : C → Meaning) (number : F → V → Optio
   }
 
 module _ {C F L V W : Type 0} where
-  abbrev pub Has-had : World V W → List (Call V) → Deck C F L V W → Type 0
-  Has-had w calls d = After V W w calls d.head (cues d.book) (lines d.log)
+  abbrev pub HasHad : World V W → List (Call V) → Deck C F L V W → Type 0
+  HasHad w calls d = After V W w calls d.head (cues d.book) (lines d.log)
 
   pub record Keeps (before after : Deck C F L V W) : Type 0 where
     pub piles : after.pile ≡ before.pile
@@ -41,8 +41,8 @@ module _ {C F L V W : Type 0} where
 
   -- a call took one deck to another and answered r, which is read from the calls before it
   pub record Taken (R : Type 0) (w : World V W) (before after : Deck C F L V W) (call : Call V) (told : Result ℕ Refusal → Result R Refusal) (r : Result R Refusal) : Type 0 where
-    pub says : (calls : List (Call V)) → Has-had w calls before → r ≡ told (answer w calls call)
-    pub leaves : (calls : List (Call V)) → Has-had w calls before → Has-had w (call ∷ calls) after
+    pub says : (calls : List (Call V)) → HasHad w calls before → r ≡ told (answer w calls call)
+    pub leaves : (calls : List (Call V)) → HasHad w calls before → HasHad w (call ∷ calls) after
     pub keeps : Keeps before after
 
   -- lines for the cues at the places of the book from `from` to below `to`, put to the log, and nothing else changed

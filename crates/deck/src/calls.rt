@@ -3,7 +3,7 @@ ghost use Rattle.std.specs.Prelude.{◌≡◌, not};
 ghost use Rattle.history.specs.declared.call.Call.TheVariants.{Add, Strike, Seek};
 ghost use Rattle.history.specs.Accepted.{out_of_range};
 ghost use Rattle.deck.specs.Blocks.{position_of};
-ghost use Rattle.deck.specs.Runs.{world-of, Taken, done};
+ghost use Rattle.deck.specs.Runs.{world_of, Taken, done};
 
 use crate::state::Deck;
 use book::cue::Cue;
@@ -33,7 +33,7 @@ impl<'m, C: Timebase, F: WrittenForm, L: WrittenTimebase> Deck<'m, C, F, L> {
 
     // A cue put into the book.
     pub fn add(&mut self, number: u64, at: F::Value) -> Result<(), Refusal>
-        ensures { Taken (Unit {0}) (world-of C.Timebase.meaning F.WrittenForm.number L.Timebase.meaning L.WrittenTimebase.form self.old) self.old self.new (Add number at) done result }
+        ensures { Taken (Unit {0}) (world_of C.Timebase.meaning F.WrittenForm.number L.Timebase.meaning L.WrittenTimebase.form self.old) self.old self.new (Add number at) done result }
     {
         if !in_range(number) {
             return Err(Refusal::CueOutOfRange);
@@ -59,7 +59,7 @@ impl<'m, C: Timebase, F: WrittenForm, L: WrittenTimebase> Deck<'m, C, F, L> {
 
     // A cue taken out of the book by its number.
     pub fn strike(&mut self, number: u64) -> Result<(), Refusal>
-        ensures { Taken (Unit {0}) (world-of C.Timebase.meaning F.WrittenForm.number L.Timebase.meaning L.WrittenTimebase.form self.old) self.old self.new (Strike number) done result }
+        ensures { Taken (Unit {0}) (world_of C.Timebase.meaning F.WrittenForm.number L.Timebase.meaning L.WrittenTimebase.form self.old) self.old self.new (Strike number) done result }
     {
         if !in_range(number) {
             return Err(Refusal::CueOutOfRange);
@@ -73,7 +73,7 @@ impl<'m, C: Timebase, F: WrittenForm, L: WrittenTimebase> Deck<'m, C, F, L> {
 
     // The head set to a sample, or to the one after the last.
     pub fn seek(&mut self, head: u64) -> Result<(), Refusal>
-        ensures { Taken (Unit {0}) (world-of C.Timebase.meaning F.WrittenForm.number L.Timebase.meaning L.WrittenTimebase.form self.old) self.old self.new (Seek head) done result }
+        ensures { Taken (Unit {0}) (world_of C.Timebase.meaning F.WrittenForm.number L.Timebase.meaning L.WrittenTimebase.form self.old) self.old self.new (Seek head) done result }
     {
         if head > LAST_SAMPLE + 1 {
             return Err(Refusal::HeadPastEnd);

@@ -5,7 +5,7 @@ ghost use Rattle.history.specs.Accepted.{accepted};
 ghost use Rattle.history.specs.declared.call.Call.{Call};
 ghost use Rattle.deck.specs.Blocks.{Row};
 ghost use Rattle.deck.specs.Finds.{Found};
-ghost use Rattle.deck.specs.Runs.{world-of, Has-had};
+ghost use Rattle.deck.specs.Runs.{world_of, HasHad};
 
 use crate::state::Deck;
 use forms::form::WrittenForm;
@@ -25,7 +25,7 @@ impl<'m, C: Timebase, F: WrittenForm, L: WrittenTimebase> Deck<'m, C, F, L> {
 
     // The number of a cue whose sample is this one; none exactly if there is no such cue.
     pub fn find(&self, sample: u64) -> Option<u64>
-        ensures { (calls : List (Call F.Value)) → Has-had (world-of C.Timebase.meaning F.WrittenForm.number L.Timebase.meaning L.WrittenTimebase.form self.now) calls self.now → Found (world-of C.Timebase.meaning F.WrittenForm.number L.Timebase.meaning L.WrittenTimebase.form self.now) (accepted (world-of C.Timebase.meaning F.WrittenForm.number L.Timebase.meaning L.WrittenTimebase.form self.now) calls) sample result }
+        ensures { (calls : List (Call F.Value)) → HasHad (world_of C.Timebase.meaning F.WrittenForm.number L.Timebase.meaning L.WrittenTimebase.form self.now) calls self.now → Found (world_of C.Timebase.meaning F.WrittenForm.number L.Timebase.meaning L.WrittenTimebase.form self.now) (accepted (world_of C.Timebase.meaning F.WrittenForm.number L.Timebase.meaning L.WrittenTimebase.form self.now) calls) sample result }
     {
         if sample > LAST_SAMPLE {
             return None;

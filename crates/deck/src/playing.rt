@@ -4,7 +4,7 @@ ghost use Rattle.book.specs.Held.{cues, lines, log_room};
 ghost use Rattle.history.specs.declared.call.Call.TheVariants.{Play};
 ghost use Rattle.history.specs.Laws.{EveryCrossingIsLoggedOnce, APlayAnswersItsLines, CuttingAPlayShowsNowhere};
 ghost use Rattle.deck.specs.Blocks.{block_end, line_for, Row};
-ghost use Rattle.deck.specs.Runs.{world-of, Logs, Taken, lines_added};
+ghost use Rattle.deck.specs.Runs.{world_of, Logs, Taken, lines_added};
 
 use crate::state::Deck;
 use book::cue::{Cue, Line};
@@ -26,7 +26,7 @@ fn block_end(head: u64, count: u64) -> Option<u64>
 impl<'m, C: Timebase, F: WrittenForm, L: WrittenTimebase> Deck<'m, C, F, L> {
     // The line of a cue: its sample and the label current there. A cue past the pile's end has none.
     fn line_for(&self, cue: Cue<F::Value>) -> Option<Line<L::Shown>>
-        ensures { result ≡ line_for (world-of C.Timebase.meaning F.WrittenForm.number L.Timebase.meaning L.WrittenTimebase.form self.now) cue }
+        ensures { result ≡ line_for (world_of C.Timebase.meaning F.WrittenForm.number L.Timebase.meaning L.WrittenTimebase.form self.now) cue }
     {
         match self.pile.place(cue.position) {
             Ok(sample) => Some(Line {
@@ -57,7 +57,7 @@ impl<'m, C: Timebase, F: WrittenForm, L: WrittenTimebase> Deck<'m, C, F, L> {
 
     // The cue at one place of the book put to the log.
     fn log_one(&mut self, i: usize)
-        ensures { Logs (world-of C.Timebase.meaning F.WrittenForm.number L.Timebase.meaning L.WrittenTimebase.form self.old) i (i + 1) self.old self.new }
+        ensures { Logs (world_of C.Timebase.meaning F.WrittenForm.number L.Timebase.meaning L.WrittenTimebase.form self.old) i (i + 1) self.old self.new }
     {
         let Some(cue) = self.book.at(i) else {
             return;
@@ -69,7 +69,7 @@ impl<'m, C: Timebase, F: WrittenForm, L: WrittenTimebase> Deck<'m, C, F, L> {
     }
 
     fn log_row(&mut self, from: usize, to: usize)
-        ensures { Logs (world-of C.Timebase.meaning F.WrittenForm.number L.Timebase.meaning L.WrittenTimebase.form self.old) from to self.old self.new }
+        ensures { Logs (world_of C.Timebase.meaning F.WrittenForm.number L.Timebase.meaning L.WrittenTimebase.form self.old) from to self.old self.new }
     {
         for i in from..to {
             self.log_one(i);
@@ -78,7 +78,7 @@ impl<'m, C: Timebase, F: WrittenForm, L: WrittenTimebase> Deck<'m, C, F, L> {
 
     // The head moved on by a count of samples, with a line for each cue that the block crosses.
     pub fn play(&mut self, count: u64) -> Result<u64, Refusal>
-        ensures run { Taken ℕ (world-of C.Timebase.meaning F.WrittenForm.number L.Timebase.meaning L.WrittenTimebase.form self.old) self.old self.new (Play count) lines_added result }
+        ensures run { Taken ℕ (world_of C.Timebase.meaning F.WrittenForm.number L.Timebase.meaning L.WrittenTimebase.form self.old) self.old self.new (Play count) lines_added result }
         ensures once { EveryCrossingIsLoggedOnce F.Value L.Shown }
         ensures counts { APlayAnswersItsLines F.Value L.Shown }
         ensures cutting { CuttingAPlayShowsNowhere F.Value L.Shown }

@@ -4,8 +4,8 @@ ghost use Rattle.timebase.specs.Meaning.{placed, Least, Agree};
 ghost use Rattle.layers.specs.Piles.{PlaceAndLocateAgree};
 ghost use Rattle.book.specs.Held.{cues, room, lines as written, log_room};
 ghost use Rattle.history.specs.declared.call.Call.{Call};
-ghost use Rattle.deck.specs.Runs.{world-of, Has-had};
-ghost use Rattle.deck.specs.Order.{In-written-order};
+ghost use Rattle.deck.specs.Runs.{world_of, HasHad};
+ghost use Rattle.deck.specs.Order.{InWrittenOrder};
 
 use crate::state::Deck;
 use book::cue::{Cue, Line};
@@ -25,7 +25,7 @@ impl<'m, C: Timebase, F: WrittenForm, L: WrittenTimebase> Deck<'m, C, F, L> {
         places: &'m mut [Cue<F::Value>],
         lines: &'m mut [Line<L::Shown>],
     ) -> Self
-        ensures starts { Has-had (world-of C.Timebase.meaning F.WrittenForm.number L.Timebase.meaning L.WrittenTimebase.form result) [] result }
+        ensures starts { HasHad (world_of C.Timebase.meaning F.WrittenForm.number L.Timebase.meaning L.WrittenTimebase.form result) [] result }
         ensures pile { result.pile ≡ pile }
         ensures form { result.form ≡ form }
         ensures frames { result.frames ≡ frames }
@@ -58,7 +58,7 @@ impl<'m, C: Timebase, F: WrittenForm, L: WrittenTimebase> Deck<'m, C, F, L> {
     // The cues of the book: by written form, part by part from the left, and then by number.
     pub fn cues(&self) -> &[Cue<F::Value>]
         ensures value { result.now ≡ cues self.now.book }
-        ensures ordered { (calls : List (Call F.Value)) → Has-had (world-of C.Timebase.meaning F.WrittenForm.number L.Timebase.meaning L.WrittenTimebase.form self.now) calls self.now → In-written-order (F.WrittenForm.parts self.now.form) result.now }
+        ensures ordered { (calls : List (Call F.Value)) → HasHad (world_of C.Timebase.meaning F.WrittenForm.number L.Timebase.meaning L.WrittenTimebase.form self.now) calls self.now → InWrittenOrder (F.WrittenForm.parts self.now.form) result.now }
     {
         self.book.held()
     }

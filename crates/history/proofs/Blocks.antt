@@ -1,6 +1,6 @@
 -- One play, or two of the same total: what they cross.
 --   two_blocks    a sample lies in one block exactly where it lies in one of its two parts
---   split-block   the cues that the whole crosses are those of the first part, then those of the second
+--   split_block   the cues that the whole crosses are those of the first part, then those of the second
 --   tally_split   a count of tests that part into two
 --   empty_block   a play of nothing crosses no cue
 -- Assumes nothing.
@@ -13,7 +13,7 @@ use Rattle.book.specs.Cues.{AfterAll, Rising}
 use Rattle.book.proofs.Halves.{earlier_le}
 use Rattle.history.specs.World.{World}
 use Rattle.history.specs.Accepted.{in_block}
-use Rattle.history.specs.Contents.{sample, in-play}
+use Rattle.history.specs.Contents.{sample, in_play}
 use Rattle.history.proofs.Kept.{Good}
 
 pub inside_block : (h n s : ℕ) → h ≤ s → s < h + n → in_block h n s ≡ true
@@ -77,34 +77,34 @@ tally_none f e zero = refl
 tally_none f e (suc n) = ap (λ t. tally f n + cond t 1 0) (e n) ∙ ap (λ t. t + 0) (tally_none f e n)
 
 module _ {V L : Type 0} (w : World V L) where
-  pub empty_block : (h : ℕ) (xs : List (Cue V)) → filter (in-play w h 0) xs ≡ []
+  pub empty_block : (h : ℕ) (xs : List (Cue V)) → filter (in_play w h 0) xs ≡ []
   empty_block h [] = refl
-  empty_block h (x ∷ xs) = cond-false (in-play w h 0 x) (x ∷ filter (in-play w h 0) xs) _ (no_block h (sample w x)) ∙ empty_block h xs
+  empty_block h (x ∷ xs) = cond-false (in_play w h 0 x) (x ∷ filter (in_play w h 0) xs) _ (no_block h (sample w x)) ∙ empty_block h xs
 
   module _ (sound : Sound w.cues) where
     -- where a cue lies past a block, so do all that come after it
-    past : (h n : ℕ) (x : Cue V) → h + n ≤ sample w x → (xs : List (Cue V)) → AfterAll x xs → All (Good V L w) xs → filter (in-play w h n) xs ≡ []
+    past : (h n : ℕ) (x : Cue V) → h + n ≤ sample w x → (xs : List (Cue V)) → AfterAll x xs → All (Good V L w) xs → filter (in_play w h n) xs ≡ []
     past h n x l [] after good = refl
     past h n x l (y ∷ ys) after good =
         let le = sound.never_falls x.position y.position (earlier_le x y after.0) good.0.inside in
         let out = after_block h n (sample w y) (omega arith) in
-        cond-false (in-play w h n y) (y ∷ filter (in-play w h n) ys) _ out ∙ past h n x l ys after.1 good.1
+        cond-false (in_play w h n y) (y ∷ filter (in_play w h n) ys) _ out ∙ past h n x l ys after.1 good.1
 
     module _ (h x y : ℕ) where
       abbrev whole : List (Cue V) → List (Cue V)
-      whole zs = filter (in-play w h (x + y)) zs
+      whole zs = filter (in_play w h (x + y)) zs
 
       abbrev one : List (Cue V) → List (Cue V)
-      one zs = filter (in-play w h x) zs
+      one zs = filter (in_play w h x) zs
 
       abbrev two : List (Cue V) → List (Cue V)
-      two zs = filter (in-play w (h + x) y) zs
+      two zs = filter (in_play w (h + x) y) zs
 
       abbrev Joins : Cue V → List (Cue V) → Bool → Bool → Bool → Type 0
       Joins z zs a b c = cond a (z ∷ whole zs) (whole zs) ≡ cond b (z ∷ one zs) (one zs) ++ cond c (z ∷ two zs) (two zs)
 
       joins : (z : Cue V) (zs : List (Cue V)) → AfterAll z zs → All (Good V L w) zs → whole zs ≡ one zs ++ two zs → Lies h x y (sample w z)
-          → Joins z zs (in-play w h (x + y) z) (in-play w h x z) (in-play w (h + x) y z)
+          → Joins z zs (in_play w h (x + y) z) (in_play w h x z) (in_play w (h + x) y z)
       joins z zs after good rest (first a b c) = by_values (Joins z zs) a b c (ap (λ t. z ∷ t) rest)
       joins z zs after good rest (second l a b c) =
           let none = past h x z l zs after good in
@@ -112,7 +112,7 @@ module _ {V L : Type 0} (w : World V L) where
           by_values (Joins z zs) a b c (ap (λ t. z ∷ t) tail ∙ ap (λ t. t ++ (z ∷ two zs)) (sym none))
       joins z zs after good rest (neither a b c) = by_values (Joins z zs) a b c rest
 
-      pub split-block : (zs : List (Cue V)) → Rising zs → All (Good V L w) zs
-          → filter (in-play w h (x + y)) zs ≡ filter (in-play w h x) zs ++ filter (in-play w (h + x) y) zs
-      split-block [] rises good = refl
-      split-block (z ∷ zs) rises good = joins z zs rises.0 good.1 (split-block zs rises.1 good.1) (lies h x y (sample w z))
+      pub split_block : (zs : List (Cue V)) → Rising zs → All (Good V L w) zs
+          → filter (in_play w h (x + y)) zs ≡ filter (in_play w h x) zs ++ filter (in_play w (h + x) y) zs
+      split_block [] rises good = refl
+      split_block (z ∷ zs) rises good = joins z zs rises.0 good.1 (split_block zs rises.1 good.1) (lies h x y (sample w z))

@@ -14,7 +14,7 @@ use Rattle.history.specs.Accepted.{crossed, refusal, with_call, accepted}
 use Rattle.history.specs.Laws.{played, AllAccepted, lines_of_all, CuttingAPlayShowsNowhere}
 use Rattle.history.proofs.Kept.{Kept}
 use Rattle.history.proofs.Same.{Same, same_trans, alike}
-use Rattle.history.proofs.TwoPlays.{crossed-cut, crossed-none, cut-accepted, joined-accepted, none-accepted, same_none, same-cut}
+use Rattle.history.proofs.TwoPlays.{crossed_cut, crossed_none, cut_accepted, joined_accepted, none_accepted, same_none, same_cut}
 
 sum_cons : (n : ℕ) (ns : List ℕ) → sum (n ∷ ns) ≡ n + sum ns
 sum_cons n ns = sum_by-cons (λ x. x) n ns
@@ -27,22 +27,22 @@ module _ {V L : Type 0} (w : World V L) where
   parts_pass [] calls e = tt
   parts_pass (n ∷ ns) calls e =
       let whole = subst (λ k. refusal w (accepted w calls) (Play k) ≡ None) (sum_cons n ns) e in
-      let two = cut-accepted w (accepted w calls) n (sum ns) whole in
+      let two = cut_accepted w (accepted w calls) n (sum ns) whole in
       let rest = subst (λ a. refusal w a (Play (sum ns)) ≡ None) (sym (play_taken calls n two.0)) two.1 in
       (two.0, parts_pass ns (Play n ∷ calls) rest)
 
   lines_add : (parts : List ℕ) (calls : List (Call V)) → AllAccepted w calls parts → crossed w (accepted w calls) (sum parts) ≡ lines_of_all w calls parts
-  lines_add [] calls all = crossed-none w (accepted w calls)
+  lines_add [] calls all = crossed_none w (accepted w calls)
   lines_add (n ∷ ns) calls all =
       let rest = ap (λ a. crossed w a (sum ns)) (sym (play_taken calls n all.0)) ∙ lines_add ns (Play n ∷ calls) all.1 in
-      ap (crossed w (accepted w calls)) (sum_cons n ns) ∙ crossed-cut w (accepted w calls) n (sum ns) ∙ ap (λ k. crossed w (accepted w calls) n + k) rest
+      ap (crossed w (accepted w calls)) (sum_cons n ns) ∙ crossed_cut w (accepted w calls) n (sum ns) ∙ ap (λ k. crossed w (accepted w calls) n + k) rest
 
   module _ (sound : Sound w.cues) (kept : (calls : List (Call V)) → Kept V L w (accepted w calls)) where
     whole-passes : (parts : List ℕ) (calls : List (Call V)) → AllAccepted w calls parts → refusal w (accepted w calls) (Play (sum parts)) ≡ None
-    whole-passes [] calls all = none-accepted w (accepted w calls) (kept calls).ends
+    whole-passes [] calls all = none_accepted w (accepted w calls) (kept calls).ends
     whole-passes (n ∷ ns) calls all =
         let rest = subst (λ a. refusal w a (Play (sum ns)) ≡ None) (play_taken calls n all.0) (whole-passes ns (Play n ∷ calls) all.1) in
-        let whole = joined-accepted w (accepted w calls) n (sum ns) all.0 rest in
+        let whole = joined_accepted w (accepted w calls) n (sum ns) all.0 rest in
         subst (λ k. refusal w (accepted w calls) (Play k) ≡ None) (sym (sum_cons n ns)) whole
 
     same_parts : (parts : List ℕ) (calls : List (Call V)) → AllAccepted w calls parts
@@ -56,7 +56,7 @@ module _ {V L : Type 0} (w : World V L) where
         play_taken calls (sum (n ∷ ns)) (whole-passes (n ∷ ns) calls all) ∙ ap (λ k. Play k ∷ a) (sum_cons n ns) in
         let two : accepted w (Play (sum ns) ∷ Play n ∷ calls) ≡ Play (sum ns) ∷ Play n ∷ a =
         play_taken (Play n ∷ calls) (sum ns) (whole-passes ns (Play n ∷ calls) all.1) ∙ ap (λ b. Play (sum ns) ∷ b) (play_taken calls n all.0) in
-        let cut = same-cut w a sound (kept calls) n (sum ns) in
+        let cut = same_cut w a sound (kept calls) n (sum ns) in
         let right = subst (λ b. Same V L w (Play (n + sum ns) ∷ a) b) (sym two) cut in
         let both = subst (λ b. Same V L w b (accepted w (Play (sum ns) ∷ Play n ∷ calls))) (sym whole) right in
         same_trans w both (same_parts ns (Play n ∷ calls) all.1)

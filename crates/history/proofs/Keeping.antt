@@ -13,16 +13,16 @@ use Rattle.history.specs.declared.call.Call.{Call}
 use Rattle.history.specs.declared.call.Call.TheVariants.{Add, Strike, Seek, Play}
 use Rattle.history.specs.World.{World, and_then, sample_of}
 use Rattle.history.specs.Accepted.{head, stands, numbers_in, end, out_of_range, crossed, added, refusal, with_call, accepted, numbers}
-use Rattle.history.specs.Contents.{cue-of, book-of, log-of, in-play, line_of}
+use Rattle.history.specs.Contents.{cue_of, book_of, log_of, in_play, line_of}
 use Rattle.history.proofs.Kept.{Good, Kept}
 use Rattle.history.proofs.Entries.{lacks, rising_entered, rising_struck, all_entered, all_struck}
 use Rattle.history.proofs.Single.{tail, entered_other, entered_one, struck_other, struck_same}
-use Rattle.history.proofs.Standing.{passed, passed_two, passed_five, some_of, none_of, crossed-is}
+use Rattle.history.proofs.Standing.{passed, passed_two, passed_five, some_of, none_of, crossed_is}
 
 -- what an accepted add says of its arguments
 pub record Addable (V L : Type 0) (w : World V L) (a : List (Call V)) (n : ℕ) (v : V) : Type 0 where
   pub new : stands n a ≡ None
-  pub good : Good V L w (cue-of w n v)
+  pub good : Good V L w (cue_of w n v)
   pub room : numbers_in a < w.places
 
 few_of : (n : ℕ) → out_of_range n ≡ false → n < numbers
@@ -54,21 +54,21 @@ module _ {V L : Type 0} (w : World V L) (a : List (Call V)) where
       }
 
   only_add : (n : ℕ) (v : V) → Kept V L w a → stands n a ≡ None → (c : ℕ) (b : Bool) → eqb n c ≡ b
-      → filter (numbered c) (entered (cue-of w n v) (book-of w a)) ≡ option_to_list (option_map (cue-of w c) (cond b (Some v) (stands c a)))
+      → filter (numbered c) (entered (cue_of w n v) (book_of w a)) ≡ option_to_list (option_map (cue_of w c) (cond b (Some v) (stands c a)))
   only_add n v k new c true e =
       let is : n ≡ c = eqb-true _ _ e in
-      let none : filter (numbered c) (book-of w a) ≡ [] = k.only c ∙ ap (λ m. option_to_list (option_map (cue-of w c) (stands m a))) (sym is) ∙ ap (λ o. option_to_list (option_map (cue-of w c) o)) new in
-      entered_one (numbered c) (cue-of w n v) (book-of w a) e none ∙ ap (λ m. cue-of w m v ∷ []) is
-  only_add n v k new c false e = entered_other (numbered c) (cue-of w n v) (book-of w a) e ∙ k.only c
+      let none : filter (numbered c) (book_of w a) ≡ [] = k.only c ∙ ap (λ m. option_to_list (option_map (cue_of w c) (stands m a))) (sym is) ∙ ap (λ o. option_to_list (option_map (cue_of w c) o)) new in
+      entered_one (numbered c) (cue_of w n v) (book_of w a) e none ∙ ap (λ m. cue_of w m v ∷ []) is
+  only_add n v k new c false e = entered_other (numbered c) (cue_of w n v) (book_of w a) e ∙ k.only c
 
   pub kept_add : (n : ℕ) (v : V) → Kept V L w a → refusal w a (Add n v) ≡ None → Kept V L w (Add n v ∷ a)
   kept_add n v k none =
       let ok = addable n v none in
-      let lack : filter (numbered n) (book-of w a) ≡ [] = k.only n ∙ ap (λ o. option_to_list (option_map (cue-of w n) o)) ok.new in
+      let lack : filter (numbered n) (book_of w a) ≡ [] = k.only n ∙ ap (λ o. option_to_list (option_map (cue_of w n) o)) ok.new in
       record {
-        rises = rising_entered (cue-of w n v) (book-of w a) (lacks n (book-of w a) lack) k.rises;
+        rises = rising_entered (cue_of w n v) (book_of w a) (lacks n (book_of w a) lack) k.rises;
         only = λ c. only_add n v k ok.new c (eqb n c) refl;
-        good = all_entered (Good V L w) (cue-of w n v) (book-of w a) ok.good k.good;
+        good = all_entered (Good V L w) (cue_of w n v) (book_of w a) ok.good k.good;
         ends = k.ends;
         fits = k.fits;
         long = k.long;
@@ -79,17 +79,17 @@ module _ {V L : Type 0} (w : World V L) (a : List (Call V)) where
   tail_one (Some x) = refl
 
   only_strike : (n : ℕ) → Kept V L w a → (c : ℕ) (b : Bool) → eqb n c ≡ b
-      → filter (numbered c) (struck n (book-of w a)) ≡ option_to_list (option_map (cue-of w c) (cond b None (stands c a)))
+      → filter (numbered c) (struck n (book_of w a)) ≡ option_to_list (option_map (cue_of w c) (cond b None (stands c a)))
   only_strike n k c true e =
       let is : n ≡ c = eqb-true _ _ e in
-      ap (λ m. filter (numbered c) (struck m (book-of w a))) is ∙ struck_same c (book-of w a) ∙ ap tail (k.only c) ∙ tail_one (option_map (cue-of w c) (stands c a))
-  only_strike n k c false e = struck_other n c (book-of w a) (λ q. eqb-false _ _ e (sym q)) ∙ k.only c
+      ap (λ m. filter (numbered c) (struck m (book_of w a))) is ∙ struck_same c (book_of w a) ∙ ap tail (k.only c) ∙ tail_one (option_map (cue_of w c) (stands c a))
+  only_strike n k c false e = struck_other n c (book_of w a) (λ q. eqb-false _ _ e (sym q)) ∙ k.only c
 
   pub kept_strike : (n : ℕ) → Kept V L w a → Kept V L w (Strike n ∷ a)
   kept_strike n k = record {
-    rises = rising_struck n (book-of w a) k.rises;
+    rises = rising_struck n (book_of w a) k.rises;
     only = λ c. only_strike n k c (eqb n c) refl;
-    good = all_struck (Good V L w) n (book-of w a) k.good;
+    good = all_struck (Good V L w) n (book_of w a) k.good;
     ends = k.ends;
     fits = k.fits;
     long = k.long;
@@ -103,15 +103,15 @@ module _ {V L : Type 0} (w : World V L) (a : List (Call V)) where
   pub kept_play : (n : ℕ) → Kept V L w a → refusal w a (Play n) ≡ None → Kept V L w (Play n ∷ a)
   kept_play n k none =
       let ok = passed_two (ltb end (head a + n)) (ltb (w.lines - added w a) (crossed w a n)) HeadPastEnd NoFreeLines none in
-      let lines : List (Cue V) = filter (in-play w (head a) n) (book-of w a) in
+      let lines : List (Cue V) = filter (in_play w (head a) n) (book_of w a) in
       record {
         rises = k.rises;
         only = k.only;
         good = k.good;
         ends = ltb-false end (head a + n) ok.0;
         fits = within w.lines (added w a) (crossed w a n) k.fits (ltb-false (w.lines - added w a) (crossed w a n) ok.1);
-        long = length-append (log-of w a) (map (line_of w) lines) ∙ ap (λ m. m + length (map (line_of w) lines)) k.long
-            ∙ ap (λ m. added w a + m) (length-map lines (line_of w) ∙ sym (crossed-is w a k n));
+        long = length-append (log_of w a) (map (line_of w) lines) ∙ ap (λ m. m + length (map (line_of w) lines)) k.long
+            ∙ ap (λ m. added w a + m) (length-map lines (line_of w) ∙ sym (crossed_is w a k n));
       }
 
   kept_call : (call : Call V) (r : Option Refusal) → refusal w a call ≡ r → Kept V L w a → Kept V L w (with_call w r call a)

@@ -12,11 +12,11 @@ use Rattle.history.specs.declared.call.Call.{Call}
 use Rattle.history.specs.declared.call.Call.TheVariants.{Add, Strike, Seek, Play}
 use Rattle.history.specs.World.{World, and_then, sample_of}
 use Rattle.history.specs.Accepted.{head, stands, in_block, holds_of, stands_on, crossed, refusal, with_call, accepted, crossings}
-use Rattle.history.specs.Contents.{cue-of, book-of, log-of, sample, in-play, line_of}
+use Rattle.history.specs.Contents.{cue_of, book_of, log_of, sample, in_play, line_of}
 use Rattle.history.specs.Laws.{lines_with, answered, EveryCrossingIsLoggedOnce, APlayAnswersItsLines}
 use Rattle.history.proofs.Kept.{Kept}
 use Rattle.history.proofs.Numbers.{kept_both, kept_same}
-use Rattle.history.proofs.Standing.{found, sample_good, crossed-is}
+use Rattle.history.proofs.Standing.{found, sample_good, crossed_is}
 use Rattle.history.proofs.Keeping.{kept_all}
 
 alone : {X : Type 0} (x : X) (b : Bool) → length (cond b (x ∷ []) []) ≡ cond b 1 0
@@ -46,23 +46,23 @@ turned false false c = refl
 module _ {V L : Type 0} (w : World V L) (a : List (Call V)) (k : Kept V L w a) (n c s : ℕ) where
   -- the lines that the play adds, for one cue and one sample
   abbrev here : Cue V → Bool
-  here x = in-play w (head a) n x && eqb (sample w x) s
+  here x = in_play w (head a) n x && eqb (sample w x) s
 
-  one_cue : (o : Option V) → stands c a ≡ o → length (filter here (option_to_list (option_map (cue-of w c) o))) ≡ cond (in_block (head a) n s && holds_of (and_then o (sample_of w)) (λ t. eqb t s)) 1 0
+  one_cue : (o : Option V) → stands c a ≡ o → length (filter here (option_to_list (option_map (cue_of w c) o))) ≡ cond (in_block (head a) n s && holds_of (and_then o (sample_of w)) (λ t. eqb t s)) 1 0
   one_cue None is = ap (λ b. cond b 1 0) (sym (and-false (in_block (head a) n s)))
   one_cue (Some v) is =
-      let x : Cue V = cue-of w c v in
+      let x : Cue V = cue_of w c v in
       alone x (here x)
       ∙ ap (λ b. cond b 1 0) (same_sample (in_block (head a) n) (sample w x) s (eqb (sample w x) s) refl)
       ∙ ap (λ o. cond (in_block (head a) n s && holds_of o (λ t. eqb t s)) 1 0) (sym (sample_good w x (found w a k c v is)))
 
-  added_lines : lines_with c s (map (line_of w) (filter (in-play w (head a) n) (book-of w a)))
+  added_lines : lines_with c s (map (line_of w) (filter (in_play w (head a) n) (book_of w a)))
       ≡ cond (in_block (head a) n s && holds_of (stands_on w c a) (λ t. eqb t s)) 1 0
   added_lines =
-      kept_map (line_of w) (λ l. eqb l.cue c && eqb l.sample s) (filter (in-play w (head a) n) (book-of w a))
-      ∙ ap length (kept_both (in-play w (head a) n) (λ x. eqb x.number c && eqb (sample w x) s) (book-of w a)
-      ∙ kept_same _ _ (λ x. turned (in-play w (head a) n x) (eqb x.number c) (eqb (sample w x) s)) (book-of w a)
-      ∙ sym (kept_both (numbered c) here (book-of w a)))
+      kept_map (line_of w) (λ l. eqb l.cue c && eqb l.sample s) (filter (in_play w (head a) n) (book_of w a))
+      ∙ ap length (kept_both (in_play w (head a) n) (λ x. eqb x.number c && eqb (sample w x) s) (book_of w a)
+      ∙ kept_same _ _ (λ x. turned (in_play w (head a) n x) (eqb x.number c) (eqb (sample w x) s)) (book_of w a)
+      ∙ sym (kept_both (numbered c) here (book_of w a)))
       ∙ ap (λ xs. length (filter here xs)) (k.only c)
       ∙ one_cue (stands c a) refl
 
@@ -71,7 +71,7 @@ lines_append c s xs ys = ap length (filter-append (λ l. eqb l.cue c && eqb l.sa
 
 module _ {V L : Type 0} (w : World V L) (c s : ℕ) where
   abbrev Counted : List (Call V) → Type 0
-  Counted a = lines_with c s (log-of w a) ≡ crossings w c s a
+  Counted a = lines_with c s (log_of w a) ≡ crossings w c s a
 
   counted_call : (a : List (Call V)) (call : Call V) (r : Option Refusal) → Kept V L w a → Counted a → Counted (with_call w r call a)
   counted_call a call (Some e) k h = h
@@ -79,8 +79,8 @@ module _ {V L : Type 0} (w : World V L) (c s : ℕ) where
   counted_call a (Strike n) None k h = h
   counted_call a (Seek t) None k h = h
   counted_call a (Play n) None k h =
-      lines_append c s (log-of w a) (map (line_of w) (filter (in-play w (head a) n) (book-of w a)))
-      ∙ ap (λ m. m + lines_with c s (map (line_of w) (filter (in-play w (head a) n) (book-of w a)))) h
+      lines_append c s (log_of w a) (map (line_of w) (filter (in_play w (head a) n) (book_of w a)))
+      ∙ ap (λ m. m + lines_with c s (map (line_of w) (filter (in_play w (head a) n) (book_of w a)))) h
       ∙ ap (λ m. crossings w c s a + m) (added_lines w a k n c s)
 
   pub counted : (calls : List (Call V)) → Counted (accepted w calls)
@@ -98,7 +98,7 @@ pub a_play_answers_its_lines : (V L : Type 0) → APlayAnswersItsLines V L
 a_play_answers_its_lines V L w sound calls n k e =
     let a : List (Call V) = accepted w calls in
     let ok = answered_ok (refusal w a (Play n)) (crossed w a n) k e in
-    let lines : List (Cue V) = filter (in-play w (head a) n) (book-of w a) in
-    ap (λ r. length (log-of w (with_call w r (Play n) a))) ok.0
-    ∙ length-append (log-of w a) (map (line_of w) lines)
-    ∙ ap (λ m. length (log-of w a) + m) (length-map lines (line_of w) ∙ sym (crossed-is w a (kept_all w calls) n) ∙ ok.1)
+    let lines : List (Cue V) = filter (in_play w (head a) n) (book_of w a) in
+    ap (λ r. length (log_of w (with_call w r (Play n) a))) ok.0
+    ∙ length-append (log_of w a) (map (line_of w) lines)
+    ∙ ap (λ m. length (log_of w a) + m) (length-map lines (line_of w) ∙ sym (crossed_is w a (kept_all w calls) n) ∙ ok.1)

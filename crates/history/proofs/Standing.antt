@@ -12,7 +12,7 @@ use Rattle.book.specs.Cues.{numbered}
 use Rattle.history.specs.declared.call.Call.{Call}
 use Rattle.history.specs.World.{World, and_then, sample_of}
 use Rattle.history.specs.Accepted.{head, stands, holds_of, numbers_in, first, crosses, crossed, in_block, numbers}
-use Rattle.history.specs.Contents.{cue-of, book-of, in-play}
+use Rattle.history.specs.Contents.{cue_of, book_of, in_play}
 use Rattle.history.proofs.Kept.{Good, Kept}
 use Rattle.history.proofs.Numbers.{tally_same, tally_cues}
 
@@ -58,30 +58,30 @@ module _ {V L : Type 0} (w : World V L) where
 
   module _ (a : List (Call V)) (k : Kept V L w a) where
     -- the cue of a number that stands is a good one
-    pub found : (c : ℕ) (v : V) → stands c a ≡ Some v → Good V L w (cue-of w c v)
+    pub found : (c : ℕ) (v : V) → stands c a ≡ Some v → Good V L w (cue_of w c v)
     found c v is =
-        let one : filter (numbered c) (book-of w a) ≡ cue-of w c v ∷ [] = k.only c ∙ ap (λ o. option_to_list (option_map (cue-of w c) o)) is in
+        let one : filter (numbered c) (book_of w a) ≡ cue_of w c v ∷ [] = k.only c ∙ ap (λ o. option_to_list (option_map (cue_of w c) o)) is in
         let P : List (Cue V) → Type 0 = λ ys. All (Good V L w) ys in
-        (subst P one (all_kept_by (numbered c) (Good V L w) (book-of w a) k.good)).0
+        (subst P one (all_kept_by (numbered c) (Good V L w) (book_of w a) k.good)).0
 
-    abbrev cue-at : ℕ → Option (Cue V)
-    cue-at c = option_map (cue-of w c) (stands c a)
+    abbrev cue_at : ℕ → Option (Cue V)
+    cue_at c = option_map (cue_of w c) (stands c a)
 
-    crosses-cue : (n c : ℕ) (o : Option V) → stands c a ≡ o → holds_of (and_then o (sample_of w)) (in_block (head a) n) ≡ holds_of (option_map (cue-of w c) o) (in-play w (head a) n)
+    crosses-cue : (n c : ℕ) (o : Option V) → stands c a ≡ o → holds_of (and_then o (sample_of w)) (in_block (head a) n) ≡ holds_of (option_map (cue_of w c) o) (in_play w (head a) n)
     crosses-cue n c None is = refl
-    crosses-cue n c (Some v) is = ap (λ o. holds_of o (in_block (head a) n)) (sample_good (cue-of w c v) (found c v is))
+    crosses-cue n c (Some v) is = ap (λ o. holds_of o (in_block (head a) n)) (sample_good (cue_of w c v) (found c v is))
 
-    pub crossed-is : (n : ℕ) → crossed w a n ≡ length (filter (in-play w (head a) n) (book-of w a))
-    crossed-is n =
-        tally_same (crosses w a n) (λ c. holds_of (cue-at c) (in-play w (head a) n)) numbers (λ c. crosses-cue n c (stands c a) refl)
-        ∙ tally_cues (in-play w (head a) n) cue-at numbers (book-of w a) k.only (all_few w (book-of w a) k.good)
+    pub crossed_is : (n : ℕ) → crossed w a n ≡ length (filter (in_play w (head a) n) (book_of w a))
+    crossed_is n =
+        tally_same (crosses w a n) (λ c. holds_of (cue_at c) (in_play w (head a) n)) numbers (λ c. crosses-cue n c (stands c a) refl)
+        ∙ tally_cues (in_play w (head a) n) cue_at numbers (book_of w a) k.only (all_few w (book_of w a) k.good)
 
-    in-cue : (c : ℕ) (o : Option V) → is_some o ≡ holds_of (option_map (cue-of w c) o) (λ x. true)
+    in-cue : (c : ℕ) (o : Option V) → is_some o ≡ holds_of (option_map (cue_of w c) o) (λ x. true)
     in-cue c None = refl
     in-cue c (Some v) = refl
 
-    pub numbers-in-is : numbers_in a ≡ length (book-of w a)
-    numbers-in-is =
-        tally_same (λ c. is_some (stands c a)) (λ c. holds_of (cue-at c) (λ x. true)) numbers (λ c. in-cue c (stands c a))
-        ∙ tally_cues (λ x. true) cue-at numbers (book-of w a) k.only (all_few w (book-of w a) k.good)
-        ∙ ap length (keep_all (book-of w a))
+    pub numbers_in_is : numbers_in a ≡ length (book_of w a)
+    numbers_in_is =
+        tally_same (λ c. is_some (stands c a)) (λ c. holds_of (cue_at c) (λ x. true)) numbers (λ c. in-cue c (stands c a))
+        ∙ tally_cues (λ x. true) cue_at numbers (book_of w a) k.only (all_few w (book_of w a) k.good)
+        ∙ ap length (keep_all (book_of w a))

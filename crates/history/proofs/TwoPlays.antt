@@ -1,9 +1,9 @@
 -- A play cut in two, from any accepted calls.
---   cut-accepted     where the whole is accepted, so are both parts
---   joined-accepted  where both parts are accepted, so is the whole
---   crossed-cut      the whole crosses as many numbers as both parts
---   same-cut         nothing tells the whole from the parts
---   none-accepted    a play of nothing is accepted, and same_none: it leaves everything the same
+--   cut_accepted     where the whole is accepted, so are both parts
+--   joined_accepted  where both parts are accepted, so is the whole
+--   crossed_cut      the whole crosses as many numbers as both parts
+--   same_cut         nothing tells the whole from the parts
+--   none_accepted    a play of nothing is accepted, and same_none: it leaves everything the same
 -- Assumes nothing.
 use Rattle.std.proofs.Common.{◌≡◌, ℕ, ◌+◌, ◌-◌, ◌≤◌, Bool, true, false, cond, ltb, List, [], ◌∷◌, ◌++◌, map, Some, None, filter, Option, sym, refl, ap, ◌∙◌, add-zero, add_assoc, arith}
 use Rattle.std.proofs.lemmas.List.{append-nil, append_assoc, map-append}
@@ -15,10 +15,10 @@ use Rattle.history.specs.declared.call.Call.{Call}
 use Rattle.history.specs.declared.call.Call.TheVariants.{Play}
 use Rattle.history.specs.World.{World}
 use Rattle.history.specs.Accepted.{head, stands_on, in_block, holds_of, numbers, first, end, crosses, crossed, added, refusal}
-use Rattle.history.specs.Contents.{book-of, line_of, in-play, log-of}
+use Rattle.history.specs.Contents.{book_of, line_of, in_play, log_of}
 use Rattle.history.proofs.Kept.{Kept}
-use Rattle.history.proofs.Blocks.{no_block, two_blocks, tally_split, tally_none, empty_block, split-block}
-use Rattle.history.proofs.Same.{Same, play-refusal}
+use Rattle.history.proofs.Blocks.{no_block, two_blocks, tally_split, tally_none, empty_block, split_block}
+use Rattle.history.proofs.Same.{Same, play_refusal}
 
 both_pass : (p q : Bool) (e f : Refusal) → first ((p, e) ∷ (q, f) ∷ []) ≡ None → (p ≡ false) × (q ≡ false)
 both_pass true q e f h = let z : ◌≡◌ {A = ℕ} 0 1 = cc in absurd (omega arith)
@@ -59,63 +59,63 @@ cut_log : {X Y : Type 0} (f : X → Y) (log : List Y) (whole one two : List X) �
 cut_log f log whole one two e = ap (λ xs. log ++ map f xs) e ∙ ap (λ ys. log ++ ys) (map-append f one two) ∙ sym (append_assoc log (map f one) (map f two))
 
 module _ {V L : Type 0} (w : World V L) where
-  plays : (h n before k : ℕ) → play-refusal w h n before k ≡ None → Plays h n w.lines before k
+  plays : (h n before k : ℕ) → play_refusal w h n before k ≡ None → Plays h n w.lines before k
   plays h n before k e =
       let p = both_pass (ltb end (h + n)) (ltb (w.lines - before) k) _ _ e in
       record { ends = ltb-false end (h + n) p.0; room = ltb-false (w.lines - before) k p.1 }
 
-  plays_on : (h n before k : ℕ) → Plays h n w.lines before k → play-refusal w h n before k ≡ None
+  plays_on : (h n before k : ℕ) → Plays h n w.lines before k → play_refusal w h n before k ≡ None
   plays_on h n before k p = pass_both (ltb end (h + n)) (ltb (w.lines - before) k) _ _ (le-ltb end (h + n) p.ends) (le-ltb (w.lines - before) k p.room)
 
   module _ (a : List (Call V)) where
-    pub crossed-cut : (x y : ℕ) → crossed w a (x + y) ≡ crossed w a x + crossed w (Play x ∷ a) y
-    crossed-cut x y = tally_split (crosses w a (x + y)) (crosses w a x) (crosses w (Play x ∷ a) y) (λ c. split_test (stands_on w c a) (head a) x y) numbers
+    pub crossed_cut : (x y : ℕ) → crossed w a (x + y) ≡ crossed w a x + crossed w (Play x ∷ a) y
+    crossed_cut x y = tally_split (crosses w a (x + y)) (crosses w a x) (crosses w (Play x ∷ a) y) (λ c. split_test (stands_on w c a) (head a) x y) numbers
 
-    pub crossed-none : crossed w a 0 ≡ 0
-    crossed-none = tally_none (crosses w a 0) (λ c. none_test (stands_on w c a) (head a)) numbers
+    pub crossed_none : crossed w a 0 ≡ 0
+    crossed_none = tally_none (crosses w a 0) (λ c. none_test (stands_on w c a) (head a)) numbers
 
     whole-plays : (x y : ℕ) → refusal w a (Play (x + y)) ≡ None → Plays (head a) (x + y) w.lines (added w a) (crossed w a (x + y))
     whole-plays x y e = plays (head a) (x + y) (added w a) (crossed w a (x + y)) e
 
-    pub cut-accepted : (x y : ℕ) → refusal w a (Play (x + y)) ≡ None → (refusal w a (Play x) ≡ None) × (refusal w (Play x ∷ a) (Play y) ≡ None)
-    cut-accepted x y e =
+    pub cut_accepted : (x y : ℕ) → refusal w a (Play (x + y)) ≡ None → (refusal w a (Play x) ≡ None) × (refusal w (Play x ∷ a) (Play y) ≡ None)
+    cut_accepted x y e =
         let h = head a in
         let before = added w a in
         let one = crossed w a x in
         let two = crossed w (Play x ∷ a) y in
         let whole = whole-plays x y e in
-        let left = cut_first h x y w.lines before _ one two (crossed-cut x y) whole in
-        let right = cut_second h x y w.lines before _ one two (crossed-cut x y) whole in
+        let left = cut_first h x y w.lines before _ one two (crossed_cut x y) whole in
+        let right = cut_second h x y w.lines before _ one two (crossed_cut x y) whole in
         (plays_on h x before one left, plays_on (h + x) y (before + one) two right)
 
-    pub joined-accepted : (x y : ℕ) → refusal w a (Play x) ≡ None → refusal w (Play x ∷ a) (Play y) ≡ None → refusal w a (Play (x + y)) ≡ None
-    joined-accepted x y e f =
+    pub joined_accepted : (x y : ℕ) → refusal w a (Play x) ≡ None → refusal w (Play x ∷ a) (Play y) ≡ None → refusal w a (Play (x + y)) ≡ None
+    joined_accepted x y e f =
         let one = plays (head a) x (added w a) (crossed w a x) e in
         let two = plays (head a + x) y (added w a + crossed w a x) (crossed w (Play x ∷ a) y) f in
-        plays_on (head a) (x + y) (added w a) (crossed w a (x + y)) (join_plays (head a) x y w.lines (added w a) _ _ _ (crossed-cut x y) one two)
+        plays_on (head a) (x + y) (added w a) (crossed w a (x + y)) (join_plays (head a) x y w.lines (added w a) _ _ _ (crossed_cut x y) one two)
 
-    pub none-accepted : head a ≤ end → refusal w a (Play 0) ≡ None
-    none-accepted l =
-        plays_on (head a) 0 (added w a) (crossed w a 0) (none_plays (head a) w.lines (added w a) (crossed w a 0) l crossed-none)
+    pub none_accepted : head a ≤ end → refusal w a (Play 0) ≡ None
+    none_accepted l =
+        plays_on (head a) 0 (added w a) (crossed w a 0) (none_plays (head a) w.lines (added w a) (crossed w a 0) l crossed_none)
 
     pub same_none : Same V L w (Play 0 ∷ a) a
     same_none = record {
       heads = add-zero (head a);
       stood = λ c. refl;
-      adds = ap (λ k. added w a + k) crossed-none ∙ add-zero (added w a);
+      adds = ap (λ k. added w a + k) crossed_none ∙ add-zero (added w a);
       books = refl;
-      logs = ap (λ xs. log-of w a ++ map (line_of w) xs) (empty_block w (head a) (book-of w a)) ∙ append-nil (log-of w a);
+      logs = ap (λ xs. log_of w a ++ map (line_of w) xs) (empty_block w (head a) (book_of w a)) ∙ append-nil (log_of w a);
     }
 
-    abbrev by-play : ℕ → List (Cue V)
-    by-play n = filter (in-play w (head a) n) (book-of w a)
+    abbrev by_play : ℕ → List (Cue V)
+    by_play n = filter (in_play w (head a) n) (book_of w a)
 
-    pub same-cut : Sound w.cues → Kept V L w a → (x y : ℕ) → Same V L w (Play (x + y) ∷ a) (Play y ∷ Play x ∷ a)
-    same-cut sound kept x y = record {
+    pub same_cut : Sound w.cues → Kept V L w a → (x y : ℕ) → Same V L w (Play (x + y) ∷ a) (Play y ∷ Play x ∷ a)
+    same_cut sound kept x y = record {
       heads = sym (add_assoc (head a) x y);
       stood = λ c. refl;
-      adds = ap (λ k. added w a + k) (crossed-cut x y) ∙ sym (add_assoc (added w a) (crossed w a x) (crossed w (Play x ∷ a) y));
+      adds = ap (λ k. added w a + k) (crossed_cut x y) ∙ sym (add_assoc (added w a) (crossed w a x) (crossed w (Play x ∷ a) y));
       books = refl;
-      logs = cut_log (line_of w) (log-of w a) (by-play (x + y)) (by-play x) (filter (in-play w (head a + x) y) (book-of w a))
-          (split-block w sound (head a) x y (book-of w a) kept.rises kept.good);
+      logs = cut_log (line_of w) (log_of w a) (by_play (x + y)) (by_play x) (filter (in_play w (head a + x) y) (book_of w a))
+          (split_block w sound (head a) x y (book_of w a) kept.rises kept.good);
     }

@@ -12,7 +12,7 @@ use Rattle.history.specs.declared.call.Call.{Call}
 use Rattle.history.specs.declared.call.Call.TheVariants.{Add, Strike, Seek, Play}
 use Rattle.history.specs.World.{World}
 use Rattle.history.specs.Accepted.{head, refusal, accepted, crossed, crossings}
-use Rattle.history.specs.Contents.{book-of, log-of, After}
+use Rattle.history.specs.Contents.{book_of, log_of, After}
 
 abbrev pub lines_with : {L : Type 0} → ℕ → ℕ → List (Line L) → ℕ
 lines_with c s ls = length (filter (λ l. l.cue == c && l.sample == s) ls)
@@ -41,7 +41,7 @@ EveryCrossingIsLoggedOnce V L =
 abbrev pub APlayAnswersItsLines : (V L : Type 0) → Type 0
 APlayAnswersItsLines V L =
     (w : World V L) → Sound w.cues → (calls : List (Call V)) (n k : ℕ) → answer w calls (Play n) ≡ Ok k
-    → length (log-of w (accepted w (Play n ∷ calls))) ≡ length (log-of w (accepted w calls)) + k
+    → length (log_of w (accepted w (Play n ∷ calls))) ≡ length (log_of w (accepted w calls)) + k
 
 abbrev pub played : {V : Type 0} → List ℕ → List (Call V) → List (Call V)
 played [] calls = calls
@@ -59,8 +59,8 @@ lines_of_all w calls (n ∷ ns) = crossed w (accepted w calls) n + lines_of_all 
 pub record Alike (V L : Type 0) (w : World V L) (one two : List (Call V)) : Type 0 where
   pub answers : (call : Call V) → answer w one call ≡ answer w two call
   pub heads : head (accepted w one) ≡ head (accepted w two)
-  pub books : book-of w (accepted w one) ≡ book-of w (accepted w two)
-  pub logs : log-of w (accepted w one) ≡ log-of w (accepted w two)
+  pub books : book_of w (accepted w one) ≡ book_of w (accepted w two)
+  pub logs : log_of w (accepted w one) ≡ log_of w (accepted w two)
 
 -- one play, or plays of the same total in a row
 pub record CutUnseen (V L : Type 0) (w : World V L) (calls : List (Call V)) (parts : List ℕ) : Type 0 where

@@ -6,14 +6,14 @@
 -- Assumes nothing.
 use Rattle.std.proofs.Common.{◌≡◌, ℕ, zero, suc, ◌+◌, ◌<◌, ◌≤◌, List, [], ◌∷◌, length, get_or, sym, refl, ◌∙◌, subst, inl, inr, add-one, arith}
 use Rattle.std.proofs.lemmas.Bool.{cases_lt, cond-true, cond-false, lt-ltb, le-ltb}
-use Rattle.rows.specs.Current.{current-from, current, Rises}
+use Rattle.rows.specs.Current.{current_from, current, Rises}
 
 module _ {R : Type 0} (begins : R → ℕ) where
-  pub before_next : (r s : R) (rest : List R) (x : ℕ) → x < begins s → current-from begins r (s ∷ rest) x ≡ r
+  pub before_next : (r s : R) (rest : List R) (x : ℕ) → x < begins s → current_from begins r (s ∷ rest) x ≡ r
   before_next r s rest x h = cond-true _ _ _ (lt-ltb x (begins s) h)
 
   pub from_next : (r s : R) (rest : List R) (x : ℕ) → begins s ≤ x →
-      current-from begins r (s ∷ rest) x ≡ current-from begins s rest x
+      current_from begins r (s ∷ rest) x ≡ current_from begins s rest x
   from_next r s rest x h = cond-false _ _ _ (le-ltb x (begins s) h)
 
   rises_suc : (rows : List R) (d : R) →
@@ -35,7 +35,7 @@ module _ {R : Type 0} (begins : R → ℕ) where
 
   from_at : (r : R) (rest : List R) (i x : ℕ) (d : R) → Rises begins (r ∷ rest) → i < length (r ∷ rest) →
       begins (get_or (r ∷ rest) i d) ≤ x → (suc i < length (r ∷ rest) → x < begins (get_or (r ∷ rest) (suc i) d)) →
-      current-from begins r rest x ≡ get_or (r ∷ rest) i d
+      current_from begins r rest x ≡ get_or (r ∷ rest) i d
   from_at r [] zero x d up l a b = refl
   from_at r (s ∷ rest) zero x d up l a b = before_next r s rest x (b (omega arith))
   from_at r [] (suc i) x d up l a b = absurd (omega arith)
@@ -50,7 +50,7 @@ module _ {R : Type 0} (begins : R → ℕ) where
   current_at none (r ∷ rest) i x d up l a b = from_at r rest i x d up l a (λ h. rw add-one at (b (omega arith)))
 
   from_keeps : (keeps : R → Type 0) (r : R) (rest : List R) (x : ℕ) (d : R) →
-      ((i : ℕ) → i < length (r ∷ rest) → keeps (get_or (r ∷ rest) i d)) → keeps (current-from begins r rest x)
+      ((i : ℕ) → i < length (r ∷ rest) → keeps (get_or (r ∷ rest) i d)) → keeps (current_from begins r rest x)
   from_keeps keeps r [] x d all = all 0 (omega arith)
   from_keeps keeps r (s ∷ rest) x d all =
       elim (cases_lt x (begins s)) [

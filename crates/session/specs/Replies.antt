@@ -16,7 +16,7 @@ use Rattle.history.specs.declared.call.Call.TheVariants.{Add, Strike, Seek, Play
 use Rattle.history.specs.World.{World}
 use Rattle.history.specs.Laws.{answer}
 use Rattle.deck.specs.declared.state.Deck.{Deck}
-use Rattle.deck.specs.Runs.{Has-had, Keeps, done}
+use Rattle.deck.specs.Runs.{HasHad, Keeps, done}
 use Rattle.operator.specs.declared.answer.Answer.{Answer}
 use Rattle.operator.specs.declared.answer.Answer.TheVariants.{Done, Lines, Sample, Position, Refused, Unreadable}
 use Rattle.operator.specs.Requests.{Said, adds, strikes, seeks, plays, places, locates, logs, nothing}
@@ -63,13 +63,13 @@ told m nothing = reply.Answered Unreadable
 
 module _ {C L W : Type 0} where
   pub record Called (w : World Label W) (before after : Deck C Labels L Label W) (call : Call Label) (r : Reply) : Type 0 where
-    pub says : (calls : List (Call Label)) → Has-had w calls before → r ≡ reply.Answered (answer_of call (answer w calls call))
-    pub leaves : (calls : List (Call Label)) → Has-had w calls before → Has-had w (call ∷ calls) after
+    pub says : (calls : List (Call Label)) → HasHad w calls before → r ≡ reply.Answered (answer_of call (answer w calls call))
+    pub leaves : (calls : List (Call Label)) → HasHad w calls before → HasHad w (call ∷ calls) after
     pub keeps : Keeps before after
 
-  abbrev pub Carried-by : Option (Call Label) → World Label W → Deck C Labels L Label W → Deck C Labels L Label W → Reply → Reply → Type 0
-  Carried-by (Some call) w before after unchanged r = Called w before after call r
-  Carried-by None w before after unchanged r = (after ≡ before) × (r ≡ unchanged)
+  abbrev pub CarriedBy : Option (Call Label) → World Label W → Deck C Labels L Label W → Deck C Labels L Label W → Reply → Reply → Type 0
+  CarriedBy (Some call) w before after unchanged r = Called w before after call r
+  CarriedBy None w before after unchanged r = (after ≡ before) × (r ≡ unchanged)
 
   abbrev pub Carried : World Label W → Deck C Labels L Label W → Deck C Labels L Label W → Said → Reply → Type 0
-  Carried w before after s r = Carried-by (call_of before.form.format s) w before after (told w.cues s) r
+  Carried w before after s r = CarriedBy (call_of before.form.format s) w before after (told w.cues s) r

@@ -4,7 +4,7 @@ ghost use Rattle.forms.specs.Labels.{label_number};
 ghost use Rattle.forms.specs.declared.label.Label.{Label};
 ghost use Rattle.layers.specs.Piles.{PlaceAndLocateAgree};
 ghost use Rattle.history.specs.Laws.{EveryCrossingIsLoggedOnce, APlayAnswersItsLines, CuttingAPlayShowsNowhere};
-ghost use Rattle.deck.specs.Runs.{world-of};
+ghost use Rattle.deck.specs.Runs.{world_of};
 ghost use Rattle.operator.specs.Requests.{said};
 ghost use Rattle.session.specs.Replies.{Carried, done_answer, lines_answer, placed_answer};
 
@@ -55,7 +55,7 @@ fn carry<C: Timebase, L: WrittenTimebase>(
     deck: &mut Deck<'_, C, Labels, L>,
     request: Request<'_>,
 ) -> Reply
-    ensures { Carried (world-of C.Timebase.meaning (λ f. label_number f.format) L.Timebase.meaning L.WrittenTimebase.form deck.old) deck.old deck.new (said request.entry) result }
+    ensures { Carried (world_of C.Timebase.meaning (λ f. label_number f.format) L.Timebase.meaning L.WrittenTimebase.form deck.old) deck.old deck.new (said request.entry) result }
 {
     match request {
         Request::Add { number, label } => {
@@ -77,7 +77,7 @@ pub fn carry_out<C: Timebase, L: WrittenTimebase>(
     deck: &mut Deck<'_, C, Labels, L>,
     request: Request<'_>,
 ) -> Reply
-    ensures carried { Carried (world-of C.Timebase.meaning (λ f. label_number f.format) L.Timebase.meaning L.WrittenTimebase.form deck.old) deck.old deck.new (said request.entry) result }
+    ensures carried { Carried (world_of C.Timebase.meaning (λ f. label_number f.format) L.Timebase.meaning L.WrittenTimebase.form deck.old) deck.old deck.new (said request.entry) result }
     ensures agree { PlaceAndLocateAgree }
     ensures once { EveryCrossingIsLoggedOnce Label L.Shown }
     ensures counts { APlayAnswersItsLines Label L.Shown }

@@ -3,8 +3,8 @@
 use Rattle.std.specs.Prelude.{◌≡◌, ℕ, zero, suc, ◌+◌, ◌<◌, ◌≤◌, true, List, [], ◌∷◌, length, get_or, slice_index_or}
 use Rattle.std.proofs.Common.{◌∙◌, ap, inl, inr, arith}
 use Rattle.std.proofs.lemmas.Bool.{cases_lt}
-use Rattle.rows.specs.Current.{current-from}
-use Rattle.rows.specs.Sums.{sum-from}
+use Rattle.rows.specs.Current.{current_from}
+use Rattle.rows.specs.Sums.{sum_from}
 use Rattle.rows.proofs.Currents.{before_next, from_next}
 use Rattle.tempo.specs.Rules.{all_kept}
 use Rattle.tempo.specs.Micros.{no_row, stretch, micros_from, whole_stretch}
@@ -13,7 +13,7 @@ use Rattle.tempo.specs.Stretch.{tick_of, Parts, parts, inside, past, stretch_mor
 use Rattle.tempo.specs.Places.{ranged}
 
 abbrev row_from : TempoRow → List TempoRow → ℕ → TempoRow
-row_from r rest t = current-from tick_of r rest t
+row_from r rest t = current_from tick_of r rest t
 
 pub starts : (r : TempoRow) (rest : List TempoRow) (last : ℕ) → all_kept r rest last ≡ true →
     micros_from r rest r.tick ≡ 0
@@ -61,7 +61,7 @@ follows r (s ∷ rest) last p k h =
 -- tick p lies in row i, or at the next row's tick: it is so far after the row's own
 pub found : (r : TempoRow) (rest : List TempoRow) (last i p : ℕ) → all_kept r rest last ≡ true → i < length (r ∷ rest) →
     (get_or (r ∷ rest) i no_row).tick ≤ p → (suc i < length (r ∷ rest) → p ≤ (get_or (r ∷ rest) (suc i) no_row).tick) →
-    micros_from r rest p ≡ sum-from whole_stretch r rest i + stretch (slice_index_or (r ∷ rest) i no_row) p
+    micros_from r rest p ≡ sum_from whole_stretch r rest i + stretch (slice_index_or (r ∷ rest) i no_row) p
 found r [] last zero p k l a b = omega arith
 found r (s ∷ rest) last zero p k l a b = omega (arith, up_to r s rest last p k (b (omega arith)))
 found r [] last (suc i) p k l a b = absurd (omega arith)

@@ -11,7 +11,7 @@
 -- Assumes nothing.
 use Rattle.std.specs.Prelude.{◌≡◌, ℕ, ◌+◌, ◌-◌, ◌*◌, ◌<◌, cond, List, [], ◌∷◌, nat_lt, slice_index}
 use Rattle.rows.specs.Current.{current}
-use Rattle.rows.specs.Sums.{sum-before}
+use Rattle.rows.specs.Sums.{sum_before}
 use Rattle.tempo.specs.declared.row.TempoRow.{TempoRow}
 
 abbrev pub no_row : TempoRow
@@ -32,7 +32,7 @@ abbrev pub whole_stretch : TempoRow → TempoRow → ℕ
 whole_stretch r s = stretch r s.tick
 
 abbrev pub micros_before : List TempoRow → ℕ → ℕ
-micros_before rows i = sum-before whole_stretch rows i
+micros_before rows i = sum_before whole_stretch rows i
 
 abbrev pub Summed : List TempoRow → List ℕ → ℕ → Type 0
 Summed rows sums n = (k : ℕ) → k < n → slice_index sums k ≡ micros_before rows k

@@ -1,5 +1,5 @@
 use Rattle.std.proofs.Common.{◌+◌, ◌-◌, ◌/◌, ◌<◌, length, arith}
-use Rattle.book.proofs.Halves.{below-mid, above-mid}
+use Rattle.book.proofs.Halves.{below_mid, above_mid}
 use Rattle.book.proofs.halving.split_at.Goals as goal
 
 pub loop-low-preserved-then-cues-mid : goal.loop-low-preserved-then-cues-mid
@@ -8,7 +8,7 @@ loop-low-preserved-then-cues-mid g c =
     let within : mid < length c.args.cues.now = omega (arith, c.loop-low.invariant) in (
       omega arith,
       c.loop-low.invariant.1,
-      below-mid _ _ mid _ within c.if-cues-mid.true,
+      below_mid _ _ mid _ within c.if-cues-mid.true,
       c.loop-low.invariant.3,
     )
 
@@ -19,5 +19,5 @@ loop-low-preserved g c =
       omega arith,
       omega arith,
       c.loop-low.invariant.2,
-      above-mid _ _ mid _ within c.if-cues-mid.false,
+      above_mid _ _ mid _ within c.if-cues-mid.false,
     )

@@ -3,7 +3,7 @@ use Rattle.forms.specs.Labels.{label_number}
 use Rattle.forms.specs.LabelText.{label_written}
 use Rattle.timebase.specs.Locates.{least_located}
 use Rattle.history.specs.declared.call.Call.TheVariants.{Add}
-use Rattle.deck.specs.Runs.{world-of}
+use Rattle.deck.specs.Runs.{world_of}
 use Rattle.operator.specs.declared.answer.Answer.TheVariants.{Position}
 use Rattle.operator.specs.Requests.{said}
 use Rattle.session.specs.declared.carry.Reply.TheVariants.{Answered}
@@ -13,7 +13,7 @@ use Rattle.session.proofs.carry.carry.Goals as goal
 pub returns-in-Add : goal.returns-in-Add
 returns-in-Add g c =
     let d = c.args.deck.now in
-    let w = world-of g.C.Timebase.meaning (λ f. label_number f.format) g.L.Timebase.meaning g.L.WrittenTimebase.form d in
+    let w = world_of g.C.Timebase.meaning (λ f. label_number f.format) g.L.Timebase.meaning g.L.WrittenTimebase.form d in
     let same : c.label_of-label.result ≡ label_written d.form.format c.in-Add.label.now
     = c.label_of-label.ensures.value ∙ ap (λ f. label_written f.format c.in-Add.label.now) c.form.ensures in
     subst (λ q. Carried w d c.add.new.self (said q) (Answered c.done.result)) (sym c.in-Add.is)
@@ -27,6 +27,6 @@ returns-in-Add g c =
 pub returns-in-Locate : goal.returns-in-Locate
 returns-in-Locate g c =
     let d = c.args.deck.now in
-    let w = world-of g.C.Timebase.meaning (λ f. label_number f.format) g.L.Timebase.meaning g.L.WrittenTimebase.form d in
+    let w = world_of g.C.Timebase.meaning (λ f. label_number f.format) g.L.Timebase.meaning g.L.WrittenTimebase.form d in
     let is = least_located w.cues (g.met.C.Timebase.sound d.pile) c.in-Locate.sample c.locate.result c.locate.ensures.least in
     subst (λ q. Carried w d d (said q) (Answered (Position c.locate.result))) (sym c.in-Locate.is) (refl, ap (λ p. Answered (Position p)) is)

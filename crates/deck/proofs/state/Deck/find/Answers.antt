@@ -2,22 +2,22 @@ use Rattle.std.proofs.Common.{◌≡◌, get_or, sym, ap, ◌∙◌, subst, arit
 use Rattle.book.specs.Cues.{Splits, Rising}
 use Rattle.book.specs.Held.{cues}
 use Rattle.history.specs.Accepted.{accepted, stands_on}
-use Rattle.history.specs.Contents.{book-of}
+use Rattle.history.specs.Contents.{book_of}
 use Rattle.history.proofs.Keeping.{kept_all}
-use Rattle.deck.specs.Runs.{world-of}
+use Rattle.deck.specs.Runs.{world_of}
 use Rattle.deck.proofs.Sought.{first_found, none_found, none_past}
 use Rattle.deck.proofs.state.Deck.find.Goals as goal
 
 pub returns-then-sample-gt-LAST_SAMPLE : goal.returns-then-sample-gt-LAST_SAMPLE
 returns-then-sample-gt-LAST_SAMPLE g c =
     let d = c.args.self.now in
-    let w = world-of g.C.Timebase.meaning g.F.WrittenForm.number g.L.Timebase.meaning g.L.WrittenTimebase.form d in
+    let w = world_of g.C.Timebase.meaning g.F.WrittenForm.number g.L.Timebase.meaning g.L.WrittenTimebase.form d in
     λ calls had. none_past w (accepted w calls) (kept_all w calls) c.args.sample (g.met.C.Timebase.sound d.pile) (omega arith)
 
 pub returns-then-from-to : goal.returns-then-from-to
 returns-then-from-to g c =
     let d = c.args.self.now in
-    let w = world-of g.C.Timebase.meaning g.F.WrittenForm.number g.L.Timebase.meaning g.L.WrittenTimebase.form d in
+    let w = world_of g.C.Timebase.meaning g.F.WrittenForm.number g.L.Timebase.meaning g.L.WrittenTimebase.form d in
     let r = c.row_on-from.ensures in
     λ calls had.
     let k = kept_all w calls in
@@ -31,13 +31,13 @@ returns-then-from-to g c =
 pub returns-in-Some : goal.returns-in-Some
 returns-in-Some g c =
     let d = c.args.self.now in
-    let w = world-of g.C.Timebase.meaning g.F.WrittenForm.number g.L.Timebase.meaning g.L.WrittenTimebase.form d in
+    let w = world_of g.C.Timebase.meaning g.F.WrittenForm.number g.L.Timebase.meaning g.L.WrittenTimebase.form d in
     let r = c.row_on-from.ensures in
     let x = c.in-Some.cue in
     λ calls had.
     let k = kept_all w calls in
     let rises : Rising (cues d.book) = subst Rising (sym had.cues_are) k.rises in
-    let is : x ≡ get_or (book-of w (accepted w calls)) c.row_on-from.result.0 x
+    let is : x ≡ get_or (book_of w (accepted w calls)) c.row_on-from.result.0 x
     = c.in-Some.ensures.1 x ∙ ap (λ cs. get_or cs c.row_on-from.result.0 x) had.cues_are in
     ap (λ y. stands_on w y.number (accepted w calls)) is
     ∙ first_found w (accepted w calls) k c.args.sample (g.met.C.Timebase.sound d.pile) r.low r.high
@@ -50,7 +50,7 @@ pub returns-in-None : goal.returns-in-None
 returns-in-None g c =
     let d = c.args.self.now in
     let r = c.row_on-from.ensures in
-    let w = world-of g.C.Timebase.meaning g.F.WrittenForm.number g.L.Timebase.meaning g.L.WrittenTimebase.form d in
+    let w = world_of g.C.Timebase.meaning g.F.WrittenForm.number g.L.Timebase.meaning g.L.WrittenTimebase.form d in
     λ calls had.
     let rises : Rising (cues d.book) = subst Rising (sym had.cues_are) (kept_all w calls).rises in
     absurd (let i = (r.ends rises).inside in let past = c.in-None.ensures in let some = c.if-from-to.false in omega arith)

@@ -2,14 +2,14 @@ use Rattle.std.proofs.Common.{◌≡◌, true, [], ◌∷◌, ◌++◌, map, sym
 use Rattle.std.proofs.lemmas.Bool.{cond-true}
 use Rattle.book.specs.Held.{cues, lines}
 use Rattle.history.specs.Contents.{line_of}
-use Rattle.deck.specs.Runs.{world-of}
+use Rattle.deck.specs.Runs.{world_of}
 use Rattle.deck.proofs.Rows.{line_some, line_none, one_between}
 use Rattle.deck.proofs.state.Deck.log_one.Goals as goal
 
 pub returns-in_default-line_for : goal.returns-in_default-line_for
 returns-in_default-line_for g c =
     let d = c.args.self.now in
-    let w = world-of g.C.Timebase.meaning g.F.WrittenForm.number g.L.Timebase.meaning g.L.WrittenTimebase.form d in
+    let w = world_of g.C.Timebase.meaning g.F.WrittenForm.number g.L.Timebase.meaning g.L.WrittenTimebase.form d in
     let x = c.in-Some.cue in
     let found = c.in-Some.ensures in
     let past = line_none w x c.in_default-line_for.ensures in
@@ -23,7 +23,7 @@ returns-in_default-line_for g c =
 pub returns : goal.returns
 returns g c =
     let d = c.args.self.now in
-    let w = world-of g.C.Timebase.meaning g.F.WrittenForm.number g.L.Timebase.meaning g.L.WrittenTimebase.form d in
+    let w = world_of g.C.Timebase.meaning g.F.WrittenForm.number g.L.Timebase.meaning g.L.WrittenTimebase.form d in
     let x = c.in-Some.cue in
     let found = c.in-Some.ensures in
     let line = line_some w x c.in-Some-line_for.line c.in-Some-line_for.ensures in

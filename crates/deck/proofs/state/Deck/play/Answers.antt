@@ -8,7 +8,7 @@ use Rattle.history.specs.Accepted.{end, accepted}
 use Rattle.history.proofs.Keeping.{kept_all}
 use Rattle.history.proofs.Once.{every_crossing_is_logged_once, a_play_answers_its_lines}
 use Rattle.history.proofs.Cutting.{cutting}
-use Rattle.deck.specs.Runs.{world-of, lines_added}
+use Rattle.deck.specs.Runs.{world_of, lines_added}
 use Rattle.deck.proofs.Plays.{play_past, refuses_full, accepts}
 use Rattle.deck.proofs.Rows.{end_some, end_none}
 use Rattle.deck.proofs.Steps.{refused, taken}
@@ -17,7 +17,7 @@ use Rattle.deck.proofs.state.Deck.play.Goals as goal
 pub returns-in_default : goal.returns-in_default
 returns-in_default g c =
     let d = c.args.self.now in
-    let w = world-of g.C.Timebase.meaning g.F.WrittenForm.number g.L.Timebase.meaning g.L.WrittenTimebase.form d in
+    let w = world_of g.C.Timebase.meaning g.F.WrittenForm.number g.L.Timebase.meaning g.L.WrittenTimebase.form d in
     let n = c.args.count in
     let past = end_none d.head n c.in_default.ensures in
     record {
@@ -30,7 +30,7 @@ returns-in_default g c =
 pub returns-then-not-has_lines : goal.returns-then-not-has_lines
 returns-then-not-has_lines g c =
     let d = c.args.self.now in
-    let w = world-of g.C.Timebase.meaning g.F.WrittenForm.number g.L.Timebase.meaning g.L.WrittenTimebase.form d in
+    let w = world_of g.C.Timebase.meaning g.F.WrittenForm.number g.L.Timebase.meaning g.L.WrittenTimebase.form d in
     let n = c.args.count in
     let r = c.row-from.ensures in
     let ends = end_some d.head n c.in-Some.until c.in-Some.ensures in
@@ -49,7 +49,7 @@ returns-then-not-has_lines g c =
 pub returns : goal.returns
 returns g c =
     let d = c.args.self.now in
-    let w = world-of g.C.Timebase.meaning g.F.WrittenForm.number g.L.Timebase.meaning g.L.WrittenTimebase.form d in
+    let w = world_of g.C.Timebase.meaning g.F.WrittenForm.number g.L.Timebase.meaning g.L.WrittenTimebase.form d in
     let n = c.args.count in
     let r = c.row-from.ensures in
     let ends = end_some d.head n c.in-Some.until c.in-Some.ensures in
