@@ -5,7 +5,7 @@
 -- Assumes nothing.
 use Rattle.std.proofs.Common.{◌≡◌, ℕ, ◌<◌, Bool, true, false, ◌&&◌, ltb, List, [], ◌∷◌, is_ok, Ok, Err, IsUtf8, Result, sym, refl, MatchResult}
 use lib.Utf8.{scalars, encodes}
-use Rattle.std.specs.List.{AllByRecursion as All}
+use Rattle.std.specs.List.{AllByRecursion}
 use Rattle.std.specs.Str.{chars}
 use Rattle.std.proofs.ByRecursion.{IsAscii-from_all}
 use Rattle.std.proofs.lemmas.Slice.Eq.{bytes_eq-Decides}
@@ -36,7 +36,7 @@ abbrev pub low : List ℕ → Bool
 low [] = true
 low (b ∷ bs) = ltb b 128 && low bs
 
-all_low : (bytes : List ℕ) → low bytes ≡ true → All (λ b. b < 128) bytes
+all_low : (bytes : List ℕ) → low bytes ≡ true → AllByRecursion (λ b. b < 128) bytes
 all_low [] h = tt
 all_low (b ∷ bs) h = let p = and_parts (ltb b 128) _ h in (ltb-true b 128 p.0, all_low bs p.1)
 

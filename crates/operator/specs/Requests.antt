@@ -9,7 +9,7 @@
 --   EveryRequestReadsBack     each request is read from its own text, and from it with a line end
 -- Assumes nothing.
 use Rattle.std.specs.Prelude.{◌≡◌, ℕ, ◌^◌, ◌<◌, true, cond, List, [], ◌∷◌, ◌++◌, length, Some, None, codes, Option, ◌≢◌}
-use Rattle.std.specs.List.{AllByRecursion as All}
+use Rattle.std.specs.List.{AllByRecursion}
 use Rattle.text.specs.Decimal.{digits, plain}
 use Rattle.operator.specs.declared.request.Verb.{Verb}
 use Rattle.operator.specs.declared.request.Verb.TheVariants as verb
@@ -99,7 +99,7 @@ request_text logs = codes "log"
 request_text nothing = []
 
 abbrev pub Spaceless : List ℕ → Type 0
-Spaceless bytes = All (λ b. b ≢ 32) bytes
+Spaceless bytes = AllByRecursion (λ b. b ≢ 32) bytes
 
 abbrev pub Writable : Said → Type 0
 Writable (adds n label) = (n < 2 ^ 64) × (0 < length label) × Spaceless label × (is_text label ≡ true)
