@@ -6,7 +6,7 @@
 --   digits_cut   the digits of a number before a full stop are cut off whole
 -- Assumes nothing.
 use Rattle.std.proofs.Common.{◌≡◌, ℕ, ◌+◌, ◌-◌, ◌^◌, ◌<◌, ◌≤◌, List, [], ◌∷◌, ◌++◌, length, get_or, take, drop, sym, refl, ap, ◌∙◌, append_assoc, arith}
-use Rattle.std.specs.List.{AllByRecursion as All}
+use Rattle.std.specs.List.{AllByRecursion}
 use Rattle.std.proofs.lemmas.List.{drop_more, take_more, append-nil, drop_all, take_all, take_rest}
 use Rattle.std.proofs.lemmas.Bool.{eq-eqb, ne_eqb, cond-true, cond-false}
 use Rattle.std.proofs.ByRecursion.{All-from_get_or}
@@ -68,7 +68,7 @@ passed_all text i past h =
     record { first_is = sym first; rest_is = sym (h.beyond ∙ ap after none) }
 
 abbrev Stopless : List ℕ → Type 0
-Stopless = All (λ b. b ≡ 46 → ⊥)
+Stopless = AllByRecursion (λ b. b ≡ 46 → ⊥)
 
 front_cut : (w rest : List ℕ) → Stopless w → front (w ++ (46 ∷ rest)) ≡ w
 front_cut [] rest h = refl

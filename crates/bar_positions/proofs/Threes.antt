@@ -8,7 +8,7 @@
 --   alone           a text that is written first, with room for it, is all that a writer holds
 -- Assumes nothing.
 use Rattle.std.proofs.Common.{◌≡◌, ℕ, ◌+◌, ◌^◌, ◌<◌, ◌≤◌, true, List, [], ◌∷◌, ◌++◌, length, take, Ok, Result, sym, ap, ◌∙◌, subst, append_assoc, arith, length-append}
-use Rattle.std.specs.List.{AllByRecursion as All}
+use Rattle.std.specs.List.{AllByRecursion}
 use Rattle.std.proofs.lemmas.Fmt.{decimal_is_IsNumeral, length-decimal-le}
 use Rattle.std.proofs.ByRecursion.{All-append, All-from_get_or}
 use Rattle.std.proofs.lemmas.Str.Parse.{digit_at}
@@ -37,7 +37,7 @@ text_short v bar beat tick =
     let c = length-decimal-le 10 v.tick (omega arith) (omega arith) (omega arith) in
     omega (arith, text_length v)
 
-digits_visible : (n : ℕ) → n < 2 ^ 64 → All Visible (digits n)
+digits_visible : (n : ℕ) → n < 2 ^ 64 → AllByRecursion Visible (digits n)
 digits_visible n small =
     let figures = (decimal_is_IsNumeral n small).0.1 in
     All-from_get_or Visible (digits n) 0 (λ i inside. let d = digit_at (digits n) i figures inside in omega arith)
@@ -45,7 +45,7 @@ digits_visible n small =
 pub text_word : (v : BarPosition) → v.bar < 65536 → v.beat < 256 → v.tick < 4294967296 → One-word (position_text v)
 text_word v bar beat tick =
     let stop : Visible 46 = omega arith in
-    let last : All Visible (46 ∷ digits v.tick) = (stop, digits_visible v.tick (omega arith)) in
+    let last : AllByRecursion Visible (46 ∷ digits v.tick) = (stop, digits_visible v.tick (omega arith)) in
     let rest = All-append Visible (digits v.beat) (46 ∷ digits v.tick) (digits_visible v.beat (omega arith)) last in
     record {
       long = omega (arith, text_length v);

@@ -1,15 +1,15 @@
 -- Positions worked out by hand, and that the engine's rules make each of them so.
---   frames        the frame counter of 30000 ÷ 1001 frames a second at 48,000 samples a second, a day and a frame long
---   tempo_rows    500,000 microseconds a quarter, and 600,000 from tick 2
---   Stage         a tempo map of these rows at 480 ticks a quarter and 44,100 samples a second, whose last tick is 3 or later
---   meter_rows    3/4, and 6/8 from tick 1,440
---   label, labelled   a label by its parts, and a number that is to have it in 30 drop
---   Holds         what a worked position says is so by the engine's definitions
---   positions     the list
---   EveryPositionIsAsWorked   all of it holds
+--   frames                   the frame counter of 30000 ÷ 1001 frames a second at 48,000 samples a second, a day and a frame long
+--   tempo_rows               500,000 microseconds a quarter, and 600,000 from tick 2
+--   Stage                    a tempo map of these rows at 480 ticks a quarter and 44,100 samples a second, whose last tick is 3 or later
+--   meter_rows               3/4, and 6/8 from tick 1,440
+--   label, labelled          a label by its parts, and a number that is to have it in 30 drop
+--   Holds                    what a worked position says is so by the engine's definitions
+--   positions                the list
+--   EveryPositionIsAsWorked  all of it holds
 -- Assumes nothing.
 use Rattle.std.specs.Prelude.{◌≡◌, ℕ, ◌≤◌, List, [], ◌∷◌, Ok, Err}
-use Rattle.std.specs.List.{AllByRecursion as All}
+use Rattle.std.specs.List.{AllByRecursion}
 use Rattle.refusal.specs.declared.Refusal.TheVariants.{NotWritten, NotBelowCount}
 use Rattle.timebase.specs.Meaning.{Meaning, placed, Least}
 use Rattle.timebase.specs.Ratio.{ratio_meaning}
@@ -89,4 +89,4 @@ positions =
     ∷ []))))))))))))))))))))
 
 abbrev pub EveryPositionIsAsWorked : Type 0
-EveryPositionIsAsWorked = All Holds positions
+EveryPositionIsAsWorked = AllByRecursion Holds positions

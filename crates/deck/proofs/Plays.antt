@@ -1,8 +1,8 @@
 -- A play by what two halvings of the book give it. Assumes nothing.
-use Rattle.std.proofs.Common.{◌≡◌, ℕ, ◌+◌, ◌-◌, ◌<◌, ◌≤◌, Bool, true, false, ltb, List, [], ◌∷◌, ◌++◌, map, length, get_or, Some, None, filter, Option, Result, sym, refl, ap, ◌∙◌, subst, arith, le-ltb, lt-ltb}
+use Rattle.std.proofs.Common.{◌≡◌, ℕ, ◌+◌, ◌-◌, ◌<◌, ◌≤◌, Bool, true, false, ltb, List, [], ◌∷◌, ◌++◌, map, length, get_or, Some, None, filter, Result, sym, refl, ap, ◌∙◌, subst, arith, le-ltb, lt-ltb}
 use Rattle.std.proofs.ByRecursion.{All-get_or}
 use Rattle.std.proofs.lemmas.List.Edits.{length-between}
-use Rattle.std.specs.List.{between, AllByRecursion as All}
+use Rattle.std.specs.List.{between, AllByRecursion}
 use Rattle.refusal.specs.declared.Refusal.{Refusal}
 use Rattle.refusal.specs.declared.Refusal.TheVariants.{HeadPastEnd, NoFreeLines}
 use Rattle.timebase.specs.Meaning.{Sound, Least}
@@ -13,12 +13,12 @@ use Rattle.history.specs.declared.call.Call.{Call}
 use Rattle.history.specs.declared.call.Call.TheVariants.{Play}
 use Rattle.history.specs.World.{World}
 use Rattle.history.specs.Accepted.{head, first, end, crossed, added, refusal, accepted}
-use Rattle.history.specs.Contents.{book_of, log_of, in_play, line_of, After}
+use Rattle.history.specs.Contents.{book_of, log_of, in_play, line_of}
 use Rattle.history.proofs.Kept.{Good, Kept}
 use Rattle.history.proofs.Keeping.{kept_all}
 use Rattle.history.proofs.Standing.{crossed_is}
 use Rattle.deck.specs.declared.state.Deck.{Deck}
-use Rattle.deck.specs.Runs.{HasHad, Keeps, Logs}
+use Rattle.deck.specs.Runs.{HasHad, Logs}
 use Rattle.deck.proofs.Ranges.{ordered, crossed_row}
 use Rattle.deck.proofs.Steps.{Accepts}
 
@@ -52,8 +52,8 @@ module _ {C F L V W : Type 0} (w : World V W) (sound : Sound w.cues) (d : Deck C
   rises : Rising (cues d.book)
   rises = subst Rising (sym had.cues_are) kept.rises
 
-  good : All (Good V W w) (cues d.book)
-  good = subst (All (Good V W w)) (sym had.cues_are) kept.good
+  good : AllByRecursion (Good V W w) (cues d.book)
+  good = subst (AllByRecursion (Good V W w)) (sym had.cues_are) kept.good
 
   pub row : filter (in_play w (head past) n) (book_of w past) ≡ between f u (cues d.book)
   row =

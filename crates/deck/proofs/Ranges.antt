@@ -1,17 +1,16 @@
 -- The cues that a play crosses stand in a row in the book: from the first at or after the head's position to the last
 -- before the position of the block's end. Assumes nothing.
-use Rattle.std.proofs.Common.{◌≡◌, ℕ, zero, suc, ◌+◌, ◌-◌, ◌<◌, ◌≤◌, Bool, true, false, cond, ◌&&◌, ltb, leb, List, [], ◌∷◌, length, get_or, take, drop, filter, sym, refl, ap, ◌∙◌, inl, inr, arith, le-ltb, lt-ltb, le-leb}
+use Rattle.std.proofs.Common.{◌≡◌, ℕ, zero, suc, ◌+◌, ◌-◌, ◌<◌, ◌≤◌, Bool, true, false, leb, List, [], ◌∷◌, length, get_or, take, drop, filter, refl, ap, ◌∙◌, inl, inr, arith, le-ltb, lt-ltb, le-leb}
 use borrow.Author.Tests.{lt-leb}
 use Rattle.std.proofs.lemmas.Bool.{cases_lt, cond-true, cond-false, and_left, and_right, and_from}
 use Rattle.std.proofs.ByRecursion.{All-get_or}
-use Rattle.std.specs.List.{between, AllByRecursion as All}
-use Rattle.timebase.specs.Meaning.{Meaning, Sound, Least, Agree}
+use Rattle.std.specs.List.{between, AllByRecursion}
+use Rattle.timebase.specs.Meaning.{Sound, Least}
 use Rattle.timebase.specs.Locates.{least_agrees}
 use Rattle.book.specs.declared.cue.Cue.{Cue}
 use Rattle.book.specs.Cues.{Splits}
 use Rattle.history.specs.World.{World}
-use Rattle.history.specs.Accepted.{in_block}
-use Rattle.history.specs.Contents.{sample, in_play}
+use Rattle.history.specs.Contents.{in_play}
 use Rattle.history.proofs.Kept.{Good}
 
 module _ {X : Type 0} (t : X → Bool) where
@@ -41,7 +40,7 @@ pub one_of : {X : Type 0} (xs : List X) → 0 < length xs → X
 one_of [] h = absurd (omega arith)
 one_of (x ∷ xs) h = x
 
-module _ {V W : Type 0} (w : World V W) (sound : Sound w.cues) (book : List (Cue V)) (good : All (Good V W w) book)
+module _ {V W : Type 0} (w : World V W) (sound : Sound w.cues) (book : List (Cue V)) (good : AllByRecursion (Good V W w) book)
     (h n lo hi f u : ℕ) (first : Least w.cues h lo) (last : Least w.cues (h + n) hi) (from : Splits V book lo f) (to : Splits V book hi u) where
   lo_hi : lo ≤ hi
   lo_hi = elim (cases_lt hi lo) [

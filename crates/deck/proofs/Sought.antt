@@ -1,10 +1,10 @@
 -- The cues on a sample are the row of a block of that sample alone; the first of them is found, or there is none.
 -- Assumes nothing.
-use Rattle.std.proofs.Common.{◌≡◌, ℕ, zero, suc, ◌+◌, ◌-◌, ◌<◌, ◌≤◌, Bool, true, false, cond, ltb, leb, List, [], ◌∷◌, length, get_or, Some, None, filter, Option, sym, refl, ap, ◌∙◌, subst, inl, inr, arith}
+use Rattle.std.proofs.Common.{◌≡◌, ℕ, zero, suc, ◌+◌, ◌<◌, ◌≤◌, Bool, true, false, cond, ltb, leb, List, [], ◌∷◌, length, get_or, Some, None, filter, Option, sym, refl, ap, ◌∙◌, subst, inl, inr, arith}
 use Rattle.std.proofs.ByRecursion.{all_kept_by, All-from_get_or, All-get_or}
 use Rattle.std.proofs.lemmas.Bool.{and_parts, and_from, and_left, le-leb, lt-leb, lt-ltb, leb-true, ltb-true, eq-eqb, both_ways, cases_lt, cond-true}
 use Rattle.std.specs.Option.{option_map, option_to_list}
-use Rattle.std.specs.List.{AllByRecursion as All}
+use Rattle.std.specs.List.{AllByRecursion}
 use Rattle.timebase.specs.Meaning.{Sound, Least}
 use Rattle.book.specs.declared.cue.Cue.{Cue}
 use Rattle.book.specs.Cues.{numbered, Splits}
@@ -29,17 +29,17 @@ its_sample w s x e =
 
 -- what holds of all that a test keeps holds at each place that passes it
 at_kept : {X : Type 0} (t : X → Bool) (P : X → Type 0) (xs : List X) (k : ℕ) (d : X) → k < length xs → t (get_or xs k d) ≡ true
-    → All P (filter t xs) → P (get_or xs k d)
+    → AllByRecursion P (filter t xs) → P (get_or xs k d)
 at_kept t P [] k d inside is all = absurd (omega arith)
-at_kept t P (x ∷ xs) zero d inside is all = (subst (All P) (cond-true (t x) (x ∷ filter t xs) (filter t xs) is) all).0
+at_kept t P (x ∷ xs) zero d inside is all = (subst (AllByRecursion P) (cond-true (t x) (x ∷ filter t xs) (filter t xs) is) all).0
 at_kept t P (x ∷ xs) (suc k) d inside is all = at_kept t P xs k d (omega arith) is (rest (t x) all)
   where
-    rest : (b : Bool) → All P (cond b (x ∷ filter t xs) (filter t xs)) → All P (filter t xs)
+    rest : (b : Bool) → AllByRecursion P (cond b (x ∷ filter t xs) (filter t xs)) → AllByRecursion P (filter t xs)
     rest true h = h.1
     rest false h = h
 
 module _ {V W : Type 0} (w : World V W) (a : List (Call V)) (k : Kept V W w a) (s : ℕ) where
-  own_cue : (c : ℕ) (o : Option V) → stands c a ≡ o → All (λ x. stands c a ≡ Some x.at) (option_to_list (option_map (cue_of w c) o))
+  own_cue : (c : ℕ) (o : Option V) → stands c a ≡ o → AllByRecursion (λ x. stands c a ≡ Some x.at) (option_to_list (option_map (cue_of w c) o))
   own_cue c None is = tt
   own_cue c (Some v) is = (is, tt)
 
@@ -50,13 +50,13 @@ module _ {V W : Type 0} (w : World V W) (a : List (Call V)) (k : Kept V W w a) (
       let x : Cue V = get_or (book_of w a) i d in
       let good : Good V W w x = All-get_or (Good V W w) (book_of w a) i d inside k.good in
       let c : ℕ = x.number in
-      let own : All (λ y. stands c a ≡ Some y.at) (filter (numbered c) (book_of w a))
-      = subst (All (λ y. stands c a ≡ Some y.at)) (sym (k.only c)) (own_cue c (stands c a) refl) in
+      let own : AllByRecursion (λ y. stands c a ≡ Some y.at) (filter (numbered c) (book_of w a))
+      = subst (AllByRecursion (λ y. stands c a ≡ Some y.at)) (sym (k.only c)) (own_cue c (stands c a) refl) in
       let is : stands c a ≡ Some x.at = at_kept (numbered c) (λ y. stands c a ≡ Some y.at) (book_of w a) i d inside (eq-eqb c c refl) own in
       ap (λ o. and_then o (sample_of w)) is ∙ sample_good w x good ∙ ap Some (only_sample w s x crossed)
 
   -- where no cue of the book is on the sample, no number stands there
-  pub none_on : All (λ x. in_play w s 1 x ≡ false) (book_of w a) → (c : ℕ) → stands_on w c a ≡ Some s → ⊥
+  pub none_on : AllByRecursion (λ x. in_play w s 1 x ≡ false) (book_of w a) → (c : ℕ) → stands_on w c a ≡ Some s → ⊥
   none_on none c on = by_value (stands c a) refl
     where
       by_value : (o : Option V) → stands c a ≡ o → ⊥
@@ -64,7 +64,7 @@ module _ {V W : Type 0} (w : World V W) (a : List (Call V)) (k : Kept V W w a) (
       by_value (Some v) is =
           let good : Good V W w (cue_of w c v) = found w a k c v is in
           let one : filter (numbered c) (book_of w a) ≡ cue_of w c v ∷ [] = k.only c ∙ ap (λ o. option_to_list (option_map (cue_of w c) o)) is in
-          let off : in_play w s 1 (cue_of w c v) ≡ false = (subst (All (λ x. in_play w s 1 x ≡ false)) one (all_kept_by (numbered c) (λ x. in_play w s 1 x ≡ false) (book_of w a) none)).0 in
+          let off : in_play w s 1 (cue_of w c v) ≡ false = (subst (AllByRecursion (λ x. in_play w s 1 x ≡ false)) one (all_kept_by (numbered c) (λ x. in_play w s 1 x ≡ false) (book_of w a) none)).0 in
           let at : Some (w.cues.rule (cue_of w c v).position) ≡ Some s = sym (sample_good w (cue_of w c v) good) ∙ sym (ap (λ o. and_then o (sample_of w)) is) ∙ on in
           both_ways (in_play w s 1 (cue_of w c v)) off (its_sample w s (cue_of w c v) (cc))
 
@@ -79,7 +79,7 @@ module _ {V W : Type 0} (w : World V W) (a : List (Call V)) (k : Kept V W w a) (
     pub none_found : u ≤ f → (c : ℕ) → stands_on w c a ≡ Some s → ⊥
     none_found empty = none_on (every-off (book_of w a) refl)
       where
-        every-off : (cs : List (Cue V)) → book_of w a ≡ cs → All (λ x. in_play w s 1 x ≡ false) (book_of w a)
+        every-off : (cs : List (Cue V)) → book_of w a ≡ cs → AllByRecursion (λ x. in_play w s 1 x ≡ false) (book_of w a)
         every-off [] is = rw is tt
         every-off (x ∷ xs) is = All-from_get_or (λ y. in_play w s 1 y ≡ false) (book_of w a) x (λ i inside. off i x inside)
           where
@@ -93,7 +93,7 @@ module _ {V W : Type 0} (w : World V W) (a : List (Call V)) (k : Kept V W w a) (
   pub none_past : Sound w.cues → 68719476735 < s → (c : ℕ) → stands_on w c a ≡ Some s → ⊥
   none_past sound past = none_on (all-off (book_of w a) k.good)
     where
-      all-off : (xs : List (Cue V)) → All (Good V W w) xs → All (λ x. in_play w s 1 x ≡ false) xs
+      all-off : (xs : List (Cue V)) → AllByRecursion (Good V W w) xs → AllByRecursion (λ x. in_play w s 1 x ≡ false) xs
       all-off [] good = tt
       all-off (x ∷ xs) good = (
         (let within = sound.within x.position good.0.inside in and_left (leb s (w.cues.rule x.position)) _ (lt-leb _ _ (omega arith))),

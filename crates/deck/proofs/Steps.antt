@@ -1,12 +1,12 @@
 -- What a deck owes at a refusal, and at an accepted call. Assumes nothing.
-use Rattle.std.proofs.Common.{◌≡◌, ℕ, List, [], ◌∷◌, Some, None, Ok, Err, Option, Result, sym, refl, ap, ◌∙◌}
+use Rattle.std.proofs.Common.{◌≡◌, ℕ, List, ◌∷◌, Some, None, Ok, Err, Result, sym, refl, ap, ◌∙◌}
 use Rattle.refusal.specs.declared.Refusal.{Refusal}
 use Rattle.book.specs.Held.{cues, lines}
 use Rattle.history.specs.declared.call.Call.{Call}
 use Rattle.history.specs.World.{World}
 use Rattle.history.specs.Accepted.{head, refusal, with_call, accepted}
-use Rattle.history.specs.Contents.{book_of, log_of, After}
-use Rattle.history.specs.Laws.{answered, answer, lines_by}
+use Rattle.history.specs.Contents.{book_of, log_of}
+use Rattle.history.specs.Laws.{answered, lines_by}
 use Rattle.deck.specs.declared.state.Deck.{Deck}
 use Rattle.deck.specs.Runs.{HasHad, Keeps, Taken}
 

@@ -1,9 +1,9 @@
 -- A deck by the calls that it has had since power-up.
---   world_of   what a deck's calls are read with: its piles, its form and its memory
+--   world_of  what a deck's calls are read with: its piles, its form and its memory
 --   HasHad    the deck is as these calls leave it
---   Keeps      piles, form and memory stay as they were
---   Logs       a row of the book put to the log
---   Taken      a call takes a deck that has had some calls to one that has had this call too, and answers by them
+--   Keeps     piles, form and memory stay as they were
+--   Logs      a row of the book put to the log
+--   Taken     a call takes a deck that has had some calls to one that has had this call too, and answers by them
 -- Assumes nothing.
 use Rattle.std.specs.Prelude.{◌≡◌, ℕ, ◌+◌, ◌-◌, ◌<◌, ◌≤◌, List, ◌∷◌, ◌++◌, map, length, Ok, Err, Option, Result, slice_index_or}
 use Rattle.std.specs.List.{between}

@@ -1,6 +1,6 @@
 -- Reading a label's text: a text that writes a label says so place by place, and then it is that label's alone.
 --   Figured  the places of a text hold a label's figures
---   Spelt   the places of a text hold a label's figures and the separators
+--   Spelt    the places of a text hold a label's figures and the separators
 -- Assumes nothing.
 use Rattle.std.proofs.Common.{◌≡◌, ℕ, ◌+◌, ◌-◌, ◌*◌, ◌<◌, Bool, true, false, cond, ◌&&◌, eqb, List, length, get_or, Ok, Err, sym, refl, subst, arith}
 use Rattle.std.specs.Str.{bytes_eq}

@@ -1,8 +1,8 @@
 -- What a written form is: a pairing of its valid values with the numbers below its count, in order.
---   Pairing   each valid value has one number below the count, and each such number one value
---   Earlier   one value stands before another, part by part from the left
---   InOrder   the order of values is that of their numbers
---   read_as   what reading a value answers
+--   Pairing     each valid value has one number below the count, and each such number one value
+--   Earlier     one value stands before another, part by part from the left
+--   InOrder     the order of values is that of their numbers
+--   read_as     what reading a value answers
 --   written_as  what writing a number answers
 -- Assumes nothing.
 use Rattle.std.specs.Prelude.{◌≡◌, ℕ, ◌<◌, cond, ◌⊎◌, List, [], ◌∷◌, Some, Ok, Err, Option, Result, nat_lt}

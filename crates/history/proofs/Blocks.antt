@@ -5,7 +5,7 @@
 --   empty_block   a play of nothing crosses no cue
 -- Assumes nothing.
 use Rattle.std.proofs.Common.{◌≡◌, ℕ, zero, suc, ◌+◌, ◌<◌, ◌≤◌, Bool, true, false, cond, ltb, leb, List, [], ◌∷◌, ◌++◌, filter, sym, refl, ap, ◌∙◌, subst, inl, inr, arith}
-use Rattle.std.specs.List.{AllByRecursion as All}
+use Rattle.std.specs.List.{AllByRecursion}
 use Rattle.std.proofs.lemmas.Bool.{cases_lt, and_from, and_left, and_right, le-leb, lt-leb, lt-ltb, le-ltb, cond-false}
 use Rattle.timebase.specs.Meaning.{Sound, tally}
 use Rattle.book.specs.declared.cue.Cue.{Cue}
@@ -83,7 +83,7 @@ module _ {V L : Type 0} (w : World V L) where
 
   module _ (sound : Sound w.cues) where
     -- where a cue lies past a block, so do all that come after it
-    past : (h n : ℕ) (x : Cue V) → h + n ≤ sample w x → (xs : List (Cue V)) → AfterAll x xs → All (Good V L w) xs → filter (in_play w h n) xs ≡ []
+    past : (h n : ℕ) (x : Cue V) → h + n ≤ sample w x → (xs : List (Cue V)) → AfterAll x xs → AllByRecursion (Good V L w) xs → filter (in_play w h n) xs ≡ []
     past h n x l [] after good = refl
     past h n x l (y ∷ ys) after good =
         let le = sound.never_falls x.position y.position (earlier_le x y after.0) good.0.inside in
@@ -103,7 +103,7 @@ module _ {V L : Type 0} (w : World V L) where
       abbrev Joins : Cue V → List (Cue V) → Bool → Bool → Bool → Type 0
       Joins z zs a b c = cond a (z ∷ whole zs) (whole zs) ≡ cond b (z ∷ one zs) (one zs) ++ cond c (z ∷ two zs) (two zs)
 
-      joins : (z : Cue V) (zs : List (Cue V)) → AfterAll z zs → All (Good V L w) zs → whole zs ≡ one zs ++ two zs → Lies h x y (sample w z)
+      joins : (z : Cue V) (zs : List (Cue V)) → AfterAll z zs → AllByRecursion (Good V L w) zs → whole zs ≡ one zs ++ two zs → Lies h x y (sample w z)
           → Joins z zs (in_play w h (x + y) z) (in_play w h x z) (in_play w (h + x) y z)
       joins z zs after good rest (first a b c) = by_values (Joins z zs) a b c (ap (λ t. z ∷ t) rest)
       joins z zs after good rest (second l a b c) =
@@ -112,7 +112,7 @@ module _ {V L : Type 0} (w : World V L) where
           by_values (Joins z zs) a b c (ap (λ t. z ∷ t) tail ∙ ap (λ t. t ++ (z ∷ two zs)) (sym none))
       joins z zs after good rest (neither a b c) = by_values (Joins z zs) a b c rest
 
-      pub split_block : (zs : List (Cue V)) → Rising zs → All (Good V L w) zs
+      pub split_block : (zs : List (Cue V)) → Rising zs → AllByRecursion (Good V L w) zs
           → filter (in_play w h (x + y)) zs ≡ filter (in_play w h x) zs ++ filter (in_play w (h + x) y) zs
       split_block [] rises good = refl
       split_block (z ∷ zs) rises good = joins z zs rises.0 good.1 (split_block zs rises.1 good.1) (lies h x y (sample w z))

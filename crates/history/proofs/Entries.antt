@@ -2,7 +2,7 @@
 -- Assumes nothing.
 use Rattle.std.proofs.Common.{◌≡◌, ℕ, ◌<◌, ◌≤◌, Bool, true, false, cond, ◌&&◌, eqb, ltb, ◌⊎◌, List, [], ◌∷◌, filter, refl, inl, inr, ⊎_elim, arith, ltb-false, ltb-true, lt-ltb, eq-eqb, eqb-true}
 use Rattle.std.proofs.lemmas.Bool.{eqb-false, or_cases, or_parts, or_left, or_right, and_parts, and_from, and_cases, cases_order}
-use Rattle.std.specs.List.{AllByRecursion as All}
+use Rattle.std.specs.List.{AllByRecursion}
 use Rattle.book.specs.declared.cue.Cue.{Cue}
 use Rattle.book.specs.Cues.{earlier, entered, numbered, struck, AfterAll, Rising}
 
@@ -88,15 +88,15 @@ module _ {V : Type 0} where
   rising_struck n [] r = tt
   rising_struck n (x ∷ xs) r = rising_cond (numbered n x) xs (x ∷ struck n xs) r.1 (after_struck x n xs r.0, rising_struck n xs r.1)
 
-  all_cond : (P : Cue V → Type 0) (b : Bool) (xs ys : List (Cue V)) → All P xs → All P ys → All P (cond b xs ys)
+  all_cond : (P : Cue V → Type 0) (b : Bool) (xs ys : List (Cue V)) → AllByRecursion P xs → AllByRecursion P ys → AllByRecursion P (cond b xs ys)
   all_cond P true xs ys p q = p
   all_cond P false xs ys p q = q
 
-  pub all_entered : (P : Cue V → Type 0) (c : Cue V) (xs : List (Cue V)) → P c → All P xs → All P (entered c xs)
+  pub all_entered : (P : Cue V → Type 0) (c : Cue V) (xs : List (Cue V)) → P c → AllByRecursion P xs → AllByRecursion P (entered c xs)
   all_entered P c [] p all = (p, tt)
   all_entered P c (x ∷ xs) p all =
       all_cond P (earlier x c) (x ∷ entered c xs) (c ∷ x ∷ xs) (all.0, all_entered P c xs p all.1) (p, all)
 
-  pub all_struck : (P : Cue V → Type 0) (n : ℕ) (xs : List (Cue V)) → All P xs → All P (struck n xs)
+  pub all_struck : (P : Cue V → Type 0) (n : ℕ) (xs : List (Cue V)) → AllByRecursion P xs → AllByRecursion P (struck n xs)
   all_struck P n [] all = tt
   all_struck P n (x ∷ xs) all = all_cond P (numbered n x) xs (x ∷ struck n xs) all.1 (all.0, all_struck P n xs all.1)

@@ -1,7 +1,7 @@
 -- What holds after any accepted calls. Assumes nothing.
 use Rattle.std.proofs.Common.{◌≡◌, ℕ, ◌<◌, ◌≤◌, List, length, Some, filter}
 use Rattle.std.specs.Option.{option_map, option_to_list}
-use Rattle.std.specs.List.{AllByRecursion as All}
+use Rattle.std.specs.List.{AllByRecursion}
 use Rattle.book.specs.declared.cue.Cue.{Cue}
 use Rattle.book.specs.Cues.{numbered, Rising}
 use Rattle.history.specs.declared.call.Call.{Call}
@@ -19,7 +19,7 @@ pub record Kept (V L : Type 0) (w : World V L) (a : List (Call V)) : Type 0 wher
   pub rises : Rising (book_of w a)
   -- of each number the book has the one cue that stands, or none
   pub only : (c : ℕ) → filter (numbered c) (book_of w a) ≡ option_to_list (option_map (cue_of w c) (stands c a))
-  pub good : All (Good V L w) (book_of w a)
+  pub good : AllByRecursion (Good V L w) (book_of w a)
   pub ends : head a ≤ end
   pub fits : added w a ≤ w.lines
   pub long : length (log_of w a) ≡ added w a

@@ -2,7 +2,7 @@
 use Rattle.std.proofs.Common.{◌≡◌, ℕ, zero, suc, ◌+◌, ◌<◌, ◌≤◌, Bool, true, false, cond, ◌&&◌, eqb, List, [], ◌∷◌, length, Some, None, filter, Option, sym, refl, ap, ◌∙◌, ⊎_elim, arith, eq-eqb, ne_eqb}
 use Rattle.std.proofs.lemmas.Bool.{cases_eq, cond-true, cond-false}
 use Rattle.std.specs.Option.{option_to_list}
-use Rattle.std.specs.List.{AllByRecursion as All}
+use Rattle.std.specs.List.{AllByRecursion}
 use Rattle.timebase.specs.Meaning.{tally}
 use Rattle.book.specs.declared.cue.Cue.{Cue}
 use Rattle.book.specs.Cues.{numbered}
@@ -80,7 +80,7 @@ module _ {V : Type 0} (T : Cue V → Bool) where
   share_step x ys true false e = ap length (cond-false (T x) (x ∷ filter T ys) (filter T ys) e) ∙ omega arith
 
   -- each cue is counted under its number, and under no other
-  pub shares : (n : ℕ) (xs : List (Cue V)) → All (λ x. x.number < n) xs → sum_to (share xs) n ≡ length (filter T xs)
+  pub shares : (n : ℕ) (xs : List (Cue V)) → AllByRecursion (λ x. x.number < n) xs → sum_to (share xs) n ≡ length (filter T xs)
   shares n [] all = sum_zero n
   shares n (x ∷ xs) all =
       let one = sum_same (share (x ∷ xs)) (λ c. cond (eqb x.number c) (cond (T x) 1 0) 0 + share xs c) n
@@ -100,7 +100,7 @@ module _ {V : Type 0} (T : Cue V → Bool) where
       alone-step false y = refl
 
   -- where each number has at most the one cue that `at` gives it, counting numbers counts cues
-  pub tally_cues : (at : ℕ → Option (Cue V)) (n : ℕ) (xs : List (Cue V)) → ((c : ℕ) → filter (numbered c) xs ≡ option_to_list (at c)) → All (λ x. x.number < n) xs
+  pub tally_cues : (at : ℕ → Option (Cue V)) (n : ℕ) (xs : List (Cue V)) → ((c : ℕ) → filter (numbered c) xs ≡ option_to_list (at c)) → AllByRecursion (λ x. x.number < n) xs
       → tally (λ c. holds_of (at c) T) n ≡ length (filter T xs)
   tally_cues at n xs only all =
       tally_sum (λ c. holds_of (at c) T) n

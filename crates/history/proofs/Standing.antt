@@ -4,7 +4,7 @@ use Rattle.std.proofs.lemmas.Bool.{cond-true}
 use Rattle.std.proofs.ByRecursion.{all_kept_by}
 use Rattle.std.specs.Option.{option_map, option_to_list}
 use Rattle.std.specs.Result.{result_ok}
-use Rattle.std.specs.List.{AllByRecursion as All}
+use Rattle.std.specs.List.{AllByRecursion}
 use Rattle.refusal.specs.declared.Refusal.{Refusal}
 use Rattle.timebase.specs.Meaning.{placed}
 use Rattle.book.specs.declared.cue.Cue.{Cue}
@@ -44,7 +44,7 @@ keep_all : {X : Type 0} (xs : List X) → filter (λ x. true) xs ≡ xs
 keep_all [] = refl
 keep_all (x ∷ xs) = ap (λ ys. x ∷ ys) (keep_all xs)
 
-all_few : {V L : Type 0} (w : World V L) (xs : List (Cue V)) → All (Good V L w) xs → All (λ x. x.number < numbers) xs
+all_few : {V L : Type 0} (w : World V L) (xs : List (Cue V)) → AllByRecursion (Good V L w) xs → AllByRecursion (λ x. x.number < numbers) xs
 all_few w [] all = tt
 all_few w (x ∷ xs) all = (all.0.few, all_few w xs all.1)
 
@@ -61,7 +61,7 @@ module _ {V L : Type 0} (w : World V L) where
     pub found : (c : ℕ) (v : V) → stands c a ≡ Some v → Good V L w (cue_of w c v)
     found c v is =
         let one : filter (numbered c) (book_of w a) ≡ cue_of w c v ∷ [] = k.only c ∙ ap (λ o. option_to_list (option_map (cue_of w c) o)) is in
-        let P : List (Cue V) → Type 0 = λ ys. All (Good V L w) ys in
+        let P : List (Cue V) → Type 0 = λ ys. AllByRecursion (Good V L w) ys in
         (subst P one (all_kept_by (numbered c) (Good V L w) (book_of w a) k.good)).0
 
     abbrev cue_at : ℕ → Option (Cue V)

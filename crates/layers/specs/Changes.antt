@@ -1,8 +1,8 @@
 -- What every layer's proof uses: a change with its least argument that reaches, and what placing answers.
---   pair_rises     such a change never falls
---   pair_before    before the least argument that reaches s, the result lies before s
---   placed_below, placed_past   what placing answers below the length, and past it
---   placed_within  what is placed is a sample
+--   pair_rises                 such a change never falls
+--   pair_before                before the least argument that reaches s, the result lies before s
+--   placed_below, placed_past  what placing answers below the length, and past it
+--   placed_within              what is placed is a sample
 -- Assumes nothing.
 use Rattle.std.specs.Prelude.{◌≡◌, ℕ, ◌<◌, ◌≤◌, Ok, Err, nat_lt}
 use Rattle.std.proofs.Common.{inl, inr, arith}

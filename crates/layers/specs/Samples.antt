@@ -1,10 +1,10 @@
 -- Layers that change samples, by any g with its least argument that reaches.
---   samples_sound    the layer keeps the law of a timebase
---   samples_least    asking the lower timebase for back s locates s
---   samples_length   the length is what the lower timebase locates for the sample after the last
---   samples_ok, samples_late, samples_none   the three ways of placing: a sample, one past the last, none below
---   samples_agree    so place and locate agree
---   samples_placed   placing below, then changing and checking the sample, places
+--   samples_sound                           the layer keeps the law of a timebase
+--   samples_least                           asking the lower timebase for back s locates s
+--   samples_length                          the length is what the lower timebase locates for the sample after the last
+--   samples_ok, samples_late, samples_none  the three ways of placing: a sample, one past the last, none below
+--   samples_agree                           so place and locate agree
+--   samples_placed                          placing below, then changing and checking the sample, places
 -- Assumes nothing.
 use Rattle.std.specs.Prelude.{◌≡◌, ℕ, ◌^◌, ◌<◌, ◌≤◌, min, Bool, leb, Ok, Err, Result, nat_le}
 use Rattle.std.proofs.Common.{sym, ap, ◌∙◌, inl, inr, arith}

@@ -8,7 +8,7 @@
 --   bars_begun   the bars that begin before tick t; no more than t, since a bar has a tick at least
 --   row_from     the last row, of one and those after it, that does not lie past tick t
 --   row_at       the same of a whole table: the row whose meter is current at tick t
---   FirstAt     r is the least argument at which f is at least t
+--   FirstAt      r is the least argument at which f is at least t
 -- Assumes nothing.
 use Rattle.std.specs.Prelude.{ℕ, zero, suc, ◌+◌, ◌-◌, ◌*◌, ◌/◌, ◌<◌, ◌≤◌, cond, ltb, List, [], ◌∷◌, nat_lt}
 use Rattle.timebase.specs.Meaning.{tally}

@@ -1,7 +1,7 @@
 -- What lines say, and that each request is read from its own text.
---   too_many    a line of more than three words says nothing
---   words_first, words_last   the words of a text that is put together from words
---   read_back   each request is read from its own text
+--   too_many                 a line of more than three words says nothing
+--   words_first, words_last  the words of a text that is put together from words
+--   read_back                each request is read from its own text
 -- Assumes nothing.
 use Rattle.std.proofs.Common.{◌≡◌, ℕ, ◌-◌, ◌^◌, ◌<◌, Bool, true, false, cond, eqb, List, [], ◌∷◌, ◌++◌, length, get_or, Some, codes, IsUtf8, Option, sym, refl, ap, ◌∙◌, arith, length-append, Bor}
 use Rattle.std.proofs.lemmas.Bool.{ne_eqb, eq-eqb, cond-false, cond-true}

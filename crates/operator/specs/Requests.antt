@@ -1,12 +1,12 @@
 -- What a line asks, by its words, and the text of each request.
---   Said                      a request with its numbers and the bytes of its label
---   said                      what a request of the code stands for
---   says                      what a line without its line end asks
---   asks                      what a line asks, with its line end or without
---   request_text              the line that makes a request
---   Spaceless                 bytes with no space among them
---   Writable                  the numbers fit 64 bits, and the label is one word of text
---   EveryRequestReadsBack     each request is read from its own text, and from it with a line end
+--   Said                   a request with its numbers and the bytes of its label
+--   said                   what a request of the code stands for
+--   says                   what a line without its line end asks
+--   asks                   what a line asks, with its line end or without
+--   request_text           the line that makes a request
+--   Spaceless              bytes with no space among them
+--   Writable               the numbers fit 64 bits, and the label is one word of text
+--   EveryRequestReadsBack  each request is read from its own text, and from it with a line end
 -- Assumes nothing.
 use Rattle.std.specs.Prelude.{◌≡◌, ℕ, ◌^◌, ◌<◌, true, cond, List, [], ◌∷◌, ◌++◌, length, Some, None, codes, Option, ◌≢◌}
 use Rattle.std.specs.List.{AllByRecursion}

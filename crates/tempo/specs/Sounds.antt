@@ -1,8 +1,8 @@
 -- A tempo map keeps the law of a timebase, and its ticks add up.
 --   span_some, span_small  what the rate's microseconds come to in a sum
---   tempo_sound  its meaning is sound
---   tempo_least  the tick that parts those that reach, cut at the length, is what locate answers
---   adds_up      the law of tempo
+--   tempo_sound            its meaning is sound
+--   tempo_least            the tick that parts those that reach, cut at the length, is what locate answers
+--   adds_up                the law of tempo
 -- Assumes nothing.
 use Rattle.std.proofs.Common.{inl, inr, mul-le-mul, div-le_self, arith}
 use Rattle.std.specs.Prelude.{ℕ, ◌+◌, ◌-◌, ◌*◌, ◌/◌, ◌^◌, ◌<◌, ◌≤◌, min, ◌==◌}

@@ -1,7 +1,7 @@
 -- Four texts appended one after another, where there is room for all four: no call refuses, and the whole is appended.
---   line_length  how long a line of the log is
---   first, second, third   the answers on the way
---   whole        what the four calls do together
+--   line_length           how long a line of the log is
+--   first, second, third  the answers on the way
+--   whole                 what the four calls do together
 -- Assumes nothing.
 use Rattle.std.proofs.Common.{◌≡◌, ℕ, ◌+◌, ◌≤◌, List, [], ◌∷◌, ◌++◌, length, Some, None, Ok, Option, Result, ◌∙◌, subst, append_assoc, arith, lit≤, length-append}
 use Rattle.refusal.specs.declared.Refusal.{Refusal}

@@ -1,6 +1,6 @@
 -- The ratio base: position p falls on p × n ÷ d rounded up.
---   ratio_meaning  the meaning of a ratio base of length f
---   ratio_refusal  what making one is refused by: a number out of range, or a last position past the last sample
+--   ratio_meaning    the meaning of a ratio base of length f
+--   ratio_refusal    what making one is refused by: a number out of range, or a last position past the last sample
 --   counter_refusal  the same of a frame counter, r samples a second at a frame rate: n is r × seconds, d is frames
 -- Assumes nothing.
 use Rattle.std.specs.Prelude.{ℕ, ◌-◌, ◌*◌, ◌^◌, cond, ◌&&◌, Some, None, Option, nat_le, nat_lt}

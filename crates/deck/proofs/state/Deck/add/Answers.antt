@@ -5,10 +5,10 @@ use Rattle.book.specs.Cues.{has, entered}
 use Rattle.book.specs.Held.{cues, room}
 use Rattle.history.specs.declared.call.Call.TheVariants.{Add}
 use Rattle.history.specs.Accepted.{accepted, out_of_range}
-use Rattle.history.specs.Contents.{cue_of, book_of}
+use Rattle.history.specs.Contents.{cue_of}
 use Rattle.history.proofs.Keeping.{kept_all}
-use Rattle.deck.specs.Runs.{world_of, HasHad, done}
-use Rattle.deck.proofs.Checks.{at_ok, at_err, add_range, add_in, add_bad, add_past, add_full, add_passes}
+use Rattle.deck.specs.Runs.{world_of, done}
+use Rattle.deck.proofs.Checks.{at_ok, at_err, add_in, add_bad, add_past, add_full, add_passes}
 use Rattle.deck.proofs.Steps.{refused, refused_by, taken}
 use Rattle.deck.proofs.state.Deck.add.Goals as goal
 

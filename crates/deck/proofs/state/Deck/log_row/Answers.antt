@@ -1,5 +1,5 @@
 use Rattle.std.proofs.Common.{◌+◌, subst}
-use Rattle.deck.specs.Runs.{world_of, Logs}
+use Rattle.deck.specs.Runs.{Logs}
 use Rattle.deck.proofs.Rows.{logs_none, logs_more, logs_all, same_world}
 use Rattle.deck.proofs.state.Deck.log_row.Goals as goal
 

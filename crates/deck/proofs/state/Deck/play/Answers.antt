@@ -1,4 +1,4 @@
-use Rattle.std.proofs.Common.{◌≡◌, ◌+◌, ◌-◌, ◌<◌, ◌≤◌, length, sym, ap, ◌∙◌, subst, arith}
+use Rattle.std.proofs.Common.{◌≡◌, ◌+◌, ◌-◌, ◌<◌, ◌≤◌, length, sym, subst}
 use borrow.Author.Tests.{false-leb, true-leb}
 use Rattle.refusal.specs.declared.Refusal.TheVariants.{HeadPastEnd, NoFreeLines}
 use Rattle.timebase.specs.Meaning.{Least}

@@ -4,9 +4,8 @@ use Rattle.book.specs.Cues.{has, struck}
 use Rattle.book.specs.Held.{cues}
 use Rattle.history.specs.declared.call.Call.TheVariants.{Strike}
 use Rattle.history.specs.Accepted.{accepted, out_of_range}
-use Rattle.history.specs.Contents.{book_of}
 use Rattle.history.proofs.Keeping.{kept_all}
-use Rattle.deck.specs.Runs.{world_of, HasHad, done}
+use Rattle.deck.specs.Runs.{world_of, done}
 use Rattle.deck.proofs.Checks.{struck_absent, strike_out, strike_passes}
 use Rattle.deck.proofs.Steps.{refused_by, taken}
 use Rattle.deck.proofs.state.Deck.strike.Goals as goal
