@@ -3,8 +3,8 @@
 
 usage: python3 tools/respell.py      at the top of the repository, once, after the kit's own script
 
-A name is one that a file of specs/, or a lemma file of proofs/, defines at its left margin or in a module of its own
-there, or a field or case of a record or data. In a file that imports the same word from the kit's library the word is left. Functions of src/,
+A name is one that a file of specs/, or a lemma file of proofs/, defines at its left margin, in a module of its own
+there or below a where, or a field or case of a record or data. In a file that imports the same word from the kit's library the word is left. Functions of src/,
 strings, inputs and outputs keep their names; in pages only what stands in backticks is turned.
 """
 
@@ -13,7 +13,7 @@ import re
 
 NAME = r"[A-Za-z][\w'-]*"
 TOP = re.compile(rf"(?m)^(?:(?:pub|abbrev|unfoldable|record|data) )*({NAME})\s*[:({{]")
-INNER = re.compile(rf"(?m)^(?:  | +(?:(?:pub|abbrev|unfoldable) )+)({NAME}) *[:({{]")
+INNER = re.compile(rf"(?m)^(?:  | +(?:(?:pub|abbrev|unfoldable) )+)({NAME}) *[:({{]|^ +({NAME}) : ")
 USE = re.compile(r"(?m)^\s*(?:ghost )?use ([\w.']+)\.\{([^}]*)\}")
 STRING = re.compile(r'"(?:[^"\\\n]|\\.)*"')
 
@@ -30,7 +30,8 @@ def own_names():
         with open(path, encoding="utf-8") as f:
             text = f.read()
         for pattern in (TOP, INNER):
-            for name in pattern.findall(text):
+            for match in pattern.finditer(text):
+                name = next(filter(None, match.groups()))
                 if "-" in name:
                     own.setdefault(name, set()).add(path)
     return own

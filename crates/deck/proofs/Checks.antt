@@ -50,22 +50,22 @@ struck_absent n (x ∷ xs) e = absent_step x xs (struck n xs) (numbered n x) (ha
 -- what the position of a written form says of its number
 pub at_ok : (o : Option ℕ) (len p : ℕ) → Ok p ≡ position_of o len → (o ≡ Some p) × (p < len)
 at_ok None len p e = absurd (let y : ◌≡◌ {A = ℕ} 0 1 = cc in omega arith)
-at_ok (Some q) len p e = by-test (ltb q len) refl e
+at_ok (Some q) len p e = by_test (ltb q len) refl e
   where
-    by-test : (b : Bool) → ltb q len ≡ b → Ok p ≡ cond b (Ok q) (Err NoPosition) → (Some q ≡ Some p) × (p < len)
-    by-test true t is = let same : q ≡ p = cc in (ap Some same, let l = ltb-true q len t in omega arith)
-    by-test false t is = absurd (let y : ◌≡◌ {A = ℕ} 0 1 = cc in omega arith)
+    by_test : (b : Bool) → ltb q len ≡ b → Ok p ≡ cond b (Ok q) (Err NoPosition) → (Some q ≡ Some p) × (p < len)
+    by_test true t is = let same : q ≡ p = cc in (ap Some same, let l = ltb-true q len t in omega arith)
+    by_test false t is = absurd (let y : ◌≡◌ {A = ℕ} 0 1 = cc in omega arith)
 
 -- why a written form has no position
 pub at_err : (o : Option ℕ) (len : ℕ) (why : Refusal) → Err why ≡ position_of o len
     → ((o ≡ None) × (why ≡ NotWritten)) ⊎ ((p : ℕ) × (o ≡ Some p) × (len ≤ p) × (why ≡ NoPosition))
 at_err None len why e = inl (refl, cc)
-at_err (Some q) len why e = by-test (ltb q len) refl e
+at_err (Some q) len why e = by_test (ltb q len) refl e
   where
-    by-test : (b : Bool) → ltb q len ≡ b → Err why ≡ cond b (Ok q) (Err NoPosition)
+    by_test : (b : Bool) → ltb q len ≡ b → Err why ≡ cond b (Ok q) (Err NoPosition)
         → ((Some q ≡ None) × (why ≡ NotWritten)) ⊎ ((p : ℕ) × (Some q ≡ Some p) × (len ≤ p) × (why ≡ NoPosition))
-    by-test true t is = absurd (let y : ◌≡◌ {A = ℕ} 0 1 = cc in omega arith)
-    by-test false t is = inr (q, refl, ltb-false q len t, cc)
+    by_test true t is = absurd (let y : ◌≡◌ {A = ℕ} 0 1 = cc in omega arith)
+    by_test false t is = inr (q, refl, ltb-false q len t, cc)
 
 module _ {V W : Type 0} (w : World V W) (a : List (Call V)) (k : Kept V W w a) where
   pub has_stands : (n : ℕ) → has n (book_of w a) ≡ is_some (stands n a)
@@ -115,17 +115,17 @@ module _ {V W : Type 0} (w : World V W) (a : List (Call V)) (k : Kept V W w a) w
 
   -- the two checks of a strike
   module _ (n : ℕ) where
-    struck-by : (range held : Bool) → out_of_range n ≡ range → has n (book_of w a) ≡ held
+    struck_by : (range held : Bool) → out_of_range n ≡ range → has n (book_of w a) ≡ held
         → refusal w a (Strike n) ≡ first ((range, CueOutOfRange) ∷ (not held, CueNotIn) ∷ [])
-    struck-by range held e1 e2 =
+    struck_by range held e1 e2 =
         ap (λ b. first ((b, CueOutOfRange) ∷ (not (is_some (stands n a)), CueNotIn) ∷ [])) e1
         ∙ ap (λ b. first ((range, CueOutOfRange) ∷ (not b, CueNotIn) ∷ [])) (sym (has_stands n) ∙ e2)
 
     pub strike_range : out_of_range n ≡ true → refusal w a (Strike n) ≡ Some CueOutOfRange
-    strike_range e = struck-by true _ e refl
+    strike_range e = struck_by true _ e refl
 
     pub strike_out : out_of_range n ≡ false → has n (book_of w a) ≡ false → refusal w a (Strike n) ≡ Some CueNotIn
-    strike_out e1 e2 = struck-by false false e1 e2
+    strike_out e1 e2 = struck_by false false e1 e2
 
     pub strike_passes : out_of_range n ≡ false → has n (book_of w a) ≡ true → refusal w a (Strike n) ≡ None
-    strike_passes e1 e2 = struck-by false true e1 e2
+    strike_passes e1 e2 = struck_by false true e1 e2

@@ -34,11 +34,11 @@ line_none w x e = ltb-false x.position w.cues.len (none_step (line_of w x) (ltb 
 
 -- the end that a block has, and why one has none
 pub end_some : (h n until : ℕ) → Some until ≡ block_end h n → (until ≡ h + n) × (h + n ≤ end)
-end_some h n until e = by-test (leb (h + n) end) refl e
+end_some h n until e = by_test (leb (h + n) end) refl e
   where
-    by-test : (b : Bool) → leb (h + n) end ≡ b → Some until ≡ cond b (Some (h + n)) None → (until ≡ h + n) × (h + n ≤ end)
-    by-test true t is = (cc, leb-true (h + n) end t)
-    by-test false t is = absurd (let z : ◌≡◌ {A = ℕ} 0 1 = cc in omega arith)
+    by_test : (b : Bool) → leb (h + n) end ≡ b → Some until ≡ cond b (Some (h + n)) None → (until ≡ h + n) × (h + n ≤ end)
+    by_test true t is = (cc, leb-true (h + n) end t)
+    by_test false t is = absurd (let z : ◌≡◌ {A = ℕ} 0 1 = cc in omega arith)
 
 pub end_none : (h n : ℕ) → None ≡ block_end h n → end < h + n
 end_none h n e = leb-false (h + n) end (none_step (h + n) (leb (h + n) end) e)

@@ -77,11 +77,11 @@ module _ {V W : Type 0} (w : World V W) (a : List (Call V)) (k : Kept V W w a) (
         on_sample f d (omega arith) (in_time w sound (book_of w a) k.good s 1 lo hi f u first last from to f d (omega arith) (omega arith) some)
 
     pub none_found : u ≤ f → (c : ℕ) → stands_on w c a ≡ Some s → ⊥
-    none_found empty = none_on (every-off (book_of w a) refl)
+    none_found empty = none_on (every_off (book_of w a) refl)
       where
-        every-off : (cs : List (Cue V)) → book_of w a ≡ cs → AllByRecursion (λ x. in_play w s 1 x ≡ false) (book_of w a)
-        every-off [] is = rw is tt
-        every-off (x ∷ xs) is = All-from_get_or (λ y. in_play w s 1 y ≡ false) (book_of w a) x (λ i inside. off i x inside)
+        every_off : (cs : List (Cue V)) → book_of w a ≡ cs → AllByRecursion (λ x. in_play w s 1 x ≡ false) (book_of w a)
+        every_off [] is = rw is tt
+        every_off (x ∷ xs) is = All-from_get_or (λ y. in_play w s 1 y ≡ false) (book_of w a) x (λ i inside. off i x inside)
           where
             off : (i : ℕ) (d : Cue V) → i < length (book_of w a) → in_play w s 1 (get_or (book_of w a) i d) ≡ false
             off i d inside = elim (cases_lt i f) [
@@ -91,11 +91,11 @@ module _ {V W : Type 0} (w : World V W) (a : List (Call V)) (k : Kept V W w a) (
 
   -- past the last sample no number stands
   pub none_past : Sound w.cues → 68719476735 < s → (c : ℕ) → stands_on w c a ≡ Some s → ⊥
-  none_past sound past = none_on (all-off (book_of w a) k.good)
+  none_past sound past = none_on (all_off (book_of w a) k.good)
     where
-      all-off : (xs : List (Cue V)) → AllByRecursion (Good V W w) xs → AllByRecursion (λ x. in_play w s 1 x ≡ false) xs
-      all-off [] good = tt
-      all-off (x ∷ xs) good = (
+      all_off : (xs : List (Cue V)) → AllByRecursion (Good V W w) xs → AllByRecursion (λ x. in_play w s 1 x ≡ false) xs
+      all_off [] good = tt
+      all_off (x ∷ xs) good = (
         (let within = sound.within x.position good.0.inside in and_left (leb s (w.cues.rule x.position)) _ (lt-leb _ _ (omega arith))),
-        all-off xs good.1,
+        all_off xs good.1,
       )

@@ -41,10 +41,10 @@ not_marked f text e k s = apart (separators f (get_or text 2 0) (get_or text 5 0
 pub told_spelt : (f : Format) (text : List ℕ) (l : Label) → length text ≡ 11 → Figured text l
     → separators f (get_or text 2 0) (get_or text 5 0) (get_or text 8 0) ≡ true → Told f text (kept f (Some l))
 told_spelt f text l long parts marks =
-    told-either (valid f l) refl
+    told_either (valid f l) refl
   where
-    told-either : (v : Bool) → valid f l ≡ v → Told f text (kept f (Some l))
-    told-either true e =
+    told_either : (v : Bool) → valid f l ≡ v → Told f text (kept f (Some l))
+    told_either true e =
         let w = writes_from_spelt f text l (record { has = e; long = long; parts = parts; marks = marks }) in
         parsed_right f text (kept f (Some l)) (rw e (sym (parsed_own f text l w)))
-    told-either false e = told_refused f text (kept f (Some l)) (rw e refl) (not_had f text l parts e)
+    told_either false e = told_refused f text (kept f (Some l)) (rw e refl) (not_had f text l parts e)

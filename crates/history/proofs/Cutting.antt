@@ -1,5 +1,5 @@
 -- A play cut into any parts: nothing shows it.
---   parts_pass    where the whole is accepted, so is each part      whole-passes  and the other way
+--   parts_pass    where the whole is accepted, so is each part      whole_passes  and the other way
 --   lines_add     the whole adds as many lines as the parts
 --   same_parts    nothing tells the whole from the parts
 --   cutting       the law, from what holds after any accepted calls
@@ -38,24 +38,24 @@ module _ {V L : Type 0} (w : World V L) where
       ap (crossed w (accepted w calls)) (sum_cons n ns) ∙ crossed_cut w (accepted w calls) n (sum ns) ∙ ap (λ k. crossed w (accepted w calls) n + k) rest
 
   module _ (sound : Sound w.cues) (kept : (calls : List (Call V)) → Kept V L w (accepted w calls)) where
-    whole-passes : (parts : List ℕ) (calls : List (Call V)) → AllAccepted w calls parts → refusal w (accepted w calls) (Play (sum parts)) ≡ None
-    whole-passes [] calls all = none_accepted w (accepted w calls) (kept calls).ends
-    whole-passes (n ∷ ns) calls all =
-        let rest = subst (λ a. refusal w a (Play (sum ns)) ≡ None) (play_taken calls n all.0) (whole-passes ns (Play n ∷ calls) all.1) in
+    whole_passes : (parts : List ℕ) (calls : List (Call V)) → AllAccepted w calls parts → refusal w (accepted w calls) (Play (sum parts)) ≡ None
+    whole_passes [] calls all = none_accepted w (accepted w calls) (kept calls).ends
+    whole_passes (n ∷ ns) calls all =
+        let rest = subst (λ a. refusal w a (Play (sum ns)) ≡ None) (play_taken calls n all.0) (whole_passes ns (Play n ∷ calls) all.1) in
         let whole = joined_accepted w (accepted w calls) n (sum ns) all.0 rest in
         subst (λ k. refusal w (accepted w calls) (Play k) ≡ None) (sym (sum_cons n ns)) whole
 
     same_parts : (parts : List ℕ) (calls : List (Call V)) → AllAccepted w calls parts
         → Same V L w (accepted w (Play (sum parts) ∷ calls)) (accepted w (played parts calls))
     same_parts [] calls all =
-        let whole = play_taken calls 0 (whole-passes [] calls all) in
+        let whole = play_taken calls 0 (whole_passes [] calls all) in
         subst (λ a. Same V L w a (accepted w calls)) (sym whole) (same_none w (accepted w calls))
     same_parts (n ∷ ns) calls all =
         let a = accepted w calls in
         let whole : accepted w (Play (sum (n ∷ ns)) ∷ calls) ≡ Play (n + sum ns) ∷ a =
-        play_taken calls (sum (n ∷ ns)) (whole-passes (n ∷ ns) calls all) ∙ ap (λ k. Play k ∷ a) (sum_cons n ns) in
+        play_taken calls (sum (n ∷ ns)) (whole_passes (n ∷ ns) calls all) ∙ ap (λ k. Play k ∷ a) (sum_cons n ns) in
         let two : accepted w (Play (sum ns) ∷ Play n ∷ calls) ≡ Play (sum ns) ∷ Play n ∷ a =
-        play_taken (Play n ∷ calls) (sum ns) (whole-passes ns (Play n ∷ calls) all.1) ∙ ap (λ b. Play (sum ns) ∷ b) (play_taken calls n all.0) in
+        play_taken (Play n ∷ calls) (sum ns) (whole_passes ns (Play n ∷ calls) all.1) ∙ ap (λ b. Play (sum ns) ∷ b) (play_taken calls n all.0) in
         let cut = same_cut w a sound (kept calls) n (sum ns) in
         let right = subst (λ b. Same V L w (Play (n + sum ns) ∷ a) b) (sym two) cut in
         let both = subst (λ b. Same V L w b (accepted w (Play (sum ns) ∷ Play n ∷ calls))) (sym whole) right in
@@ -64,7 +64,7 @@ module _ {V L : Type 0} (w : World V L) where
 pub cutting : (V L : Type 0) → ((w : World V L) → Sound w.cues → (calls : List (Call V)) → Kept V L w (accepted w calls)) → CuttingAPlayShowsNowhere V L
 cutting V L kept_all w sound calls parts = record {
   parts_accepted = parts_pass w parts calls;
-  whole_accepted = whole-passes w sound (kept_all w sound) parts calls;
+  whole_accepted = whole_passes w sound (kept_all w sound) parts calls;
   counts = lines_add w parts calls;
   later = λ all more. alike w (Play (sum parts) ∷ calls) (played parts calls) (same_parts w sound (kept_all w sound) parts calls all) more;
 }

@@ -93,11 +93,11 @@ module _ {V : Type 0} (T : Cue V → Bool) where
 
   alone : (o : Option (Cue V)) → length (filter T (option_to_list o)) ≡ cond (holds_of o T) 1 0
   alone None = refl
-  alone (Some x) = alone-step (T x) x
+  alone (Some x) = alone_step (T x) x
     where
-      alone-step : (b : Bool) (y : Cue V) → length (cond b (y ∷ []) []) ≡ cond b 1 0
-      alone-step true y = refl
-      alone-step false y = refl
+      alone_step : (b : Bool) (y : Cue V) → length (cond b (y ∷ []) []) ≡ cond b 1 0
+      alone_step true y = refl
+      alone_step false y = refl
 
   -- where each number has at most the one cue that `at` gives it, counting numbers counts cues
   pub tally_cues : (at : ℕ → Option (Cue V)) (n : ℕ) (xs : List (Cue V)) → ((c : ℕ) → filter (numbered c) xs ≡ option_to_list (at c)) → AllByRecursion (λ x. x.number < n) xs

@@ -48,56 +48,56 @@ module _ {V L : Type 0} (w : World V L) where
   }
 
   module _ {a b : List (Call V)} (s : Same V L w a b) where
-    numbers-same : numbers_in a ≡ numbers_in b
-    numbers-same = ap (λ f. tally f numbers) (fun_ext (λ c. ap is_some (s.stood c)))
+    numbers_same : numbers_in a ≡ numbers_in b
+    numbers_same = ap (λ f. tally f numbers) (fun_ext (λ c. ap is_some (s.stood c)))
 
-    crossed-same : (n : ℕ) → crossed w a n ≡ crossed w b n
-    crossed-same n = ap (λ f. tally f numbers) (fun_ext (λ c i. holds_of (and_then (s.stood c i) (sample_of w)) (in_block (s.heads i) n)))
+    crossed_same : (n : ℕ) → crossed w a n ≡ crossed w b n
+    crossed_same n = ap (λ f. tally f numbers) (fun_ext (λ c i. holds_of (and_then (s.stood c i) (sample_of w)) (in_block (s.heads i) n)))
 
     pub refusal_same : (call : Call V) → refusal w a call ≡ refusal w b call
-    refusal_same (Add n v) = λ i. add_refusal w n v (s.stood n i) (numbers-same i)
+    refusal_same (Add n v) = λ i. add_refusal w n v (s.stood n i) (numbers_same i)
     refusal_same (Strike n) = λ i. strike_refusal w n (s.stood n i)
     refusal_same (Seek h) = refl
-    refusal_same (Play n) = λ i. play_refusal w (s.heads i) n (s.adds i) (crossed-same n i)
+    refusal_same (Play n) = λ i. play_refusal w (s.heads i) n (s.adds i) (crossed_same n i)
 
     lines_same : (call : Call V) → lines_by w a call ≡ lines_by w b call
     lines_same (Add n v) = refl
     lines_same (Strike n) = refl
     lines_same (Seek h) = refl
-    lines_same (Play n) = crossed-same n
+    lines_same (Play n) = crossed_same n
 
-    same-call : (call : Call V) → Same V L w (call ∷ a) (call ∷ b)
-    same-call (Add n v) = record {
+    same_call : (call : Call V) → Same V L w (call ∷ a) (call ∷ b)
+    same_call (Add n v) = record {
       heads = s.heads;
       stood = λ c. ap (λ o. cond (eqb n c) (Some v) o) (s.stood c);
       adds = s.adds;
       books = ap (entered (cue_of w n v)) s.books;
       logs = s.logs;
     }
-    same-call (Strike n) = record {
+    same_call (Strike n) = record {
       heads = s.heads;
       stood = λ c. ap (λ o. cond (eqb n c) None o) (s.stood c);
       adds = s.adds;
       books = ap (struck n) s.books;
       logs = s.logs;
     }
-    same-call (Seek h) = record { heads = refl; stood = s.stood; adds = s.adds; books = s.books; logs = s.logs }
-    same-call (Play n) = record {
+    same_call (Seek h) = record { heads = refl; stood = s.stood; adds = s.adds; books = s.books; logs = s.logs }
+    same_call (Play n) = record {
       heads = ap (λ h. h + n) s.heads;
       stood = s.stood;
-      adds = λ i. s.adds i + crossed-same n i;
+      adds = λ i. s.adds i + crossed_same n i;
       books = s.books;
       logs = λ i. s.logs i ++ map (line_of w) (filter (in_play w (s.heads i) n) (s.books i));
     }
 
-    same-with : (call : Call V) (r : Option Refusal) → Same V L w (with_call w r call a) (with_call w r call b)
-    same-with call None = same-call call
-    same-with call (Some e) = s
+    same_with : (call : Call V) (r : Option Refusal) → Same V L w (with_call w r call a) (with_call w r call b)
+    same_with call None = same_call call
+    same_with call (Some e) = s
 
     same_next : (call : Call V) → Same V L w (with_call w (refusal w a call) call a) (with_call w (refusal w b call) call b)
     same_next call =
         let one = with_call w (refusal w a call) call a in
-        subst (λ r. Same V L w one (with_call w r call b)) (refusal_same call) (same-with call (refusal w a call))
+        subst (λ r. Same V L w one (with_call w r call b)) (refusal_same call) (same_with call (refusal w a call))
 
   same_more : (one two : List (Call V)) → Same V L w (accepted w one) (accepted w two) → (more : List (Call V))
       → Same V L w (accepted w (more ++ one)) (accepted w (more ++ two))

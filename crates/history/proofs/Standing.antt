@@ -67,21 +67,21 @@ module _ {V L : Type 0} (w : World V L) where
     abbrev cue_at : ℕ → Option (Cue V)
     cue_at c = option_map (cue_of w c) (stands c a)
 
-    crosses-cue : (n c : ℕ) (o : Option V) → stands c a ≡ o → holds_of (and_then o (sample_of w)) (in_block (head a) n) ≡ holds_of (option_map (cue_of w c) o) (in_play w (head a) n)
-    crosses-cue n c None is = refl
-    crosses-cue n c (Some v) is = ap (λ o. holds_of o (in_block (head a) n)) (sample_good (cue_of w c v) (found c v is))
+    crosses_cue : (n c : ℕ) (o : Option V) → stands c a ≡ o → holds_of (and_then o (sample_of w)) (in_block (head a) n) ≡ holds_of (option_map (cue_of w c) o) (in_play w (head a) n)
+    crosses_cue n c None is = refl
+    crosses_cue n c (Some v) is = ap (λ o. holds_of o (in_block (head a) n)) (sample_good (cue_of w c v) (found c v is))
 
     pub crossed_is : (n : ℕ) → crossed w a n ≡ length (filter (in_play w (head a) n) (book_of w a))
     crossed_is n =
-        tally_same (crosses w a n) (λ c. holds_of (cue_at c) (in_play w (head a) n)) numbers (λ c. crosses-cue n c (stands c a) refl)
+        tally_same (crosses w a n) (λ c. holds_of (cue_at c) (in_play w (head a) n)) numbers (λ c. crosses_cue n c (stands c a) refl)
         ∙ tally_cues (in_play w (head a) n) cue_at numbers (book_of w a) k.only (all_few w (book_of w a) k.good)
 
-    in-cue : (c : ℕ) (o : Option V) → is_some o ≡ holds_of (option_map (cue_of w c) o) (λ x. true)
-    in-cue c None = refl
-    in-cue c (Some v) = refl
+    in_cue : (c : ℕ) (o : Option V) → is_some o ≡ holds_of (option_map (cue_of w c) o) (λ x. true)
+    in_cue c None = refl
+    in_cue c (Some v) = refl
 
     pub numbers_in_is : numbers_in a ≡ length (book_of w a)
     numbers_in_is =
-        tally_same (λ c. is_some (stands c a)) (λ c. holds_of (cue_at c) (λ x. true)) numbers (λ c. in-cue c (stands c a))
+        tally_same (λ c. is_some (stands c a)) (λ c. holds_of (cue_at c) (λ x. true)) numbers (λ c. in_cue c (stands c a))
         ∙ tally_cues (λ x. true) cue_at numbers (book_of w a) k.only (all_few w (book_of w a) k.good)
         ∙ ap length (keep_all (book_of w a))

@@ -74,8 +74,8 @@ module _ {V L : Type 0} (w : World V L) where
     pub crossed_none : crossed w a 0 ≡ 0
     crossed_none = tally_none (crosses w a 0) (λ c. none_test (stands_on w c a) (head a)) numbers
 
-    whole-plays : (x y : ℕ) → refusal w a (Play (x + y)) ≡ None → Plays (head a) (x + y) w.lines (added w a) (crossed w a (x + y))
-    whole-plays x y e = plays (head a) (x + y) (added w a) (crossed w a (x + y)) e
+    whole_plays : (x y : ℕ) → refusal w a (Play (x + y)) ≡ None → Plays (head a) (x + y) w.lines (added w a) (crossed w a (x + y))
+    whole_plays x y e = plays (head a) (x + y) (added w a) (crossed w a (x + y)) e
 
     pub cut_accepted : (x y : ℕ) → refusal w a (Play (x + y)) ≡ None → (refusal w a (Play x) ≡ None) × (refusal w (Play x ∷ a) (Play y) ≡ None)
     cut_accepted x y e =
@@ -83,7 +83,7 @@ module _ {V L : Type 0} (w : World V L) where
         let before = added w a in
         let one = crossed w a x in
         let two = crossed w (Play x ∷ a) y in
-        let whole = whole-plays x y e in
+        let whole = whole_plays x y e in
         let left = cut_first h x y w.lines before _ one two (crossed_cut x y) whole in
         let right = cut_second h x y w.lines before _ one two (crossed_cut x y) whole in
         (plays_on h x before one left, plays_on (h + x) y (before + one) two right)

@@ -1,14 +1,16 @@
 -- The layers: what each makes of the timebase below it.
---   Pair                                             back s is the least argument at which g is at least s
---   Ahead                                            g is never below its argument
---   on_samples                                       the meaning of a layer that changes samples by g: it ends where a result passes the last sample
---   checked                                          what such a layer makes of the lower timebase's sample: refused where the result passes the last sample
---   on_positions                                     the meaning of a layer that changes positions by g: it ends where a result reaches the lower length
---   delay_refusal, varispeed_refusal, start_refusal  what making a layer is refused by
---   delayed, slid                                    delay by k: s + k, and back
---   scaled, reached                                  varispeed, in the timebase crate: s × a ÷ b rounded up, and back
---   started, begun                                   start at m: p + m, and back
---   pulled, pulled_back                              2:3 pull-down: 5 × p ÷ 2 rounded down, and back
+--   Pair             back s is the least argument at which g is at least s
+--   Ahead            g is never below its argument
+--   on_samples       the meaning of a layer that changes samples by g: it ends where a result passes the last sample
+--   checked          what such a layer makes of the lower timebase's sample: refused where the result passes the last sample
+--   on_positions     the meaning of a layer that changes positions by g: it ends where a result reaches the lower length
+--   delay_refusal, varispeed_refusal, start_refusal
+--                    what making a layer is refused by
+--   delayed, slid    delay by k: s + k, and back
+--   scaled, reached  varispeed, in the timebase crate: s × a ÷ b rounded up, and back
+--   started, begun   start at m: p + m, and back
+--   pulled, pulled_back
+--                    2:3 pull-down: 5 × p ÷ 2 rounded down, and back
 -- Assumes nothing.
 use Rattle.std.specs.Prelude.{ℕ, ◌+◌, ◌-◌, ◌*◌, ◌/◌, ◌^◌, ◌≤◌, Bool, cond, leb, Some, None, Ok, Err, Option, Result, nat_le, nat_lt}
 use Rattle.refusal.specs.declared.Refusal.{Refusal}

@@ -1,13 +1,16 @@
 -- Piles: any layers in any order on any base, and the law that they keep.
---   Layer                         the five layers with their numbers; a bars layer by the tick at which each bar begins, and back
---   Fits                          a layer's numbers are in range; bar p + 1 never begins before bar p, nor before tick p
---   Change, change                what a layer changes: samples or positions, by g and back
---   layered, piled                the meaning of one layer, and of a list of them, the uppermost first
---   asks_locate, located_through  what locate answers layer by layer, from what it answers below
---   asks_place, placed_through    what place answers layer by layer, from what it answers below
---   Answers                       locate and place answer for a sound meaning
---   Agreement                     locate(s) is at or before p exactly where s is at or before place(p)
---   PlaceAndLocateAgree           the law: whatever is piled on a base that answers, answers, and its two answers agree
+--   Layer           the five layers with their numbers; a bars layer by the tick at which each bar begins, and back
+--   Fits            a layer's numbers are in range; bar p + 1 never begins before bar p, nor before tick p
+--   Change, change  what a layer changes: samples or positions, by g and back
+--   layered, piled  the meaning of one layer, and of a list of them, the uppermost first
+--   asks_locate, located_through
+--                   what locate answers layer by layer, from what it answers below
+--   asks_place, placed_through
+--                   what place answers layer by layer, from what it answers below
+--   Answers         locate and place answer for a sound meaning
+--   Agreement       locate(s) is at or before p exactly where s is at or before place(p)
+--   PlaceAndLocateAgree
+--                   the law: whatever is piled on a base that answers, answers, and its two answers agree
 -- Assumes nothing.
 use Rattle.std.specs.Prelude.{◌≡◌, ℕ, ◌^◌, ◌≤◌, min, true, List, [], ◌∷◌, Ok, Result}
 use Rattle.refusal.specs.declared.Refusal.{Refusal}

@@ -7,7 +7,7 @@
 use Rattle.std.proofs.Common.{◌≡◌, ℕ, ◌+◌, ◌-◌, ◌*◌, ◌^◌, ◌<◌, ◌≤◌, Bool, true, false, cond, ltb, leb, List, length, get_or, take, Some, None, sym, refl, ap, ◌∙◌, subst, arith, length-take}
 use Rattle.std.specs.Str.Parse.{digits_value, AllDigits}
 use Rattle.std.specs.Int.{IsInRange}
-use Rattle.std.specs.Char.{digit_value as digitValue}
+use Rattle.std.specs.Char.{digit_value}
 use Rattle.std.specs.Str.{all_ascii_digits}
 use Rattle.std.proofs.lemmas.List.{take_all}
 use Rattle.std.proofs.lemmas.Bool.{and_parts, and_from, lt-ltb, le-leb, ltb-true, leb-true, cond-true}
@@ -81,16 +81,16 @@ pub value_small_front : (word : List ℕ) (i : ℕ) → AllDigits 10 (take i wor
     → digits_value 10 (take i word) < 10 ^ 20
 value_small_front word i h short = value_small (take i word) h (simp length-take (omega arith))
 
-digit_value : (b : ℕ) → 48 ≤ b → b ≤ 57 → digitValue b ≡ b - 48
-digit_value b low high = grind (arith, nat_tests)
+digit_value_lem : (b : ℕ) → 48 ≤ b → b ≤ 57 → digit_value b ≡ b - 48
+digit_value_lem b low high = grind (arith, nat_tests)
 
 -- one byte more of a word
 pub read_step : (word : List ℕ) (i n : ℕ) → i < length word → 48 ≤ get_or word i 0 → get_or word i 0 ≤ 57
     → n ≡ digits_value 10 (take i word) → AllDigits 10 (take i word)
     → (n * 10 + (get_or word i 0 - 48) ≡ digits_value 10 (take (i + 1) word)) × AllDigits 10 (take (i + 1) word)
 read_step word i n inside low high is figures =
-    let v : digitValue (get_or word i 0) ≡ get_or word i 0 - 48 = digit_value (get_or word i 0) low high in
-    let below : digitValue (get_or word i 0) < 10 = omega arith in
+    let v : digit_value (get_or word i 0) ≡ get_or word i 0 - 48 = digit_value_lem (get_or word i 0) low high in
+    let below : digit_value (get_or word i 0) < 10 = omega arith in
     let more = digits_value_more 10 word i inside in
     (omega arith, digits_more 10 word i inside figures below)
 

@@ -1,7 +1,7 @@
 -- Counting the numbers below a bound that pass a test.
---   tally-more   what one more number adds
---   tally_cut    a test that holds exactly below k counts k
---   tally_cuts   a test that, once it fails, fails from there on, holds exactly below its count
+--   tally_true, tally_false  what one more number adds
+--   tally_cut                a test that holds exactly below k counts k
+--   tally_cuts               a test that, once it fails, fails from there on, holds exactly below its count
 -- Assumes nothing.
 use Rattle.std.specs.Prelude.{◌≡◌, ℕ, zero, suc, ◌+◌, ◌<◌, ◌≤◌, Bool, true, false}
 use Rattle.std.proofs.Common.{ap, inl, inr, arith}
