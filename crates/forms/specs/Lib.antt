@@ -8,3 +8,4 @@ pub mod Order
 pub mod Nominal
 pub mod Clock
 pub mod Dropped
+pub mod Texts

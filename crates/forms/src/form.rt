@@ -1,6 +1,7 @@
 // What every written form answers.
-ghost use Rattle.std.specs.Prelude.{◌≡◌, ℕ, ◌^◌, ◌<◌, List, Option};
+ghost use Rattle.std.specs.Prelude.{◌≡◌, ℕ, ◌^◌, ◌<◌, ◌≤◌, List, length, Some, Option, is_some};
 ghost use Rattle.forms.specs.Pairing.{Pairing, InOrder, read_as, written_as};
+ghost use Rattle.forms.specs.Texts.{print_answer, print_after, Spells, OneWord};
 
 use refusal::Refusal;
 
@@ -32,4 +33,29 @@ pub trait WrittenForm {
     ghost paired: { (f : Self) → Pairing Self.Value (count f) (number f) (value f) };
 
     ghost ordered: { (f : Self) → InOrder Self.Value (number f) (parts f) };
+}
+
+// A written form whose values have a text, each its own.
+pub trait TextForm: WrittenForm {
+    // The text of a value, and the value that a text writes, or one that is not valid.
+    ghost text: { Self → Self.Value → List ℕ };
+
+    ghost spelt: { Self → List ℕ → Self.Value };
+
+    // How many bytes a value's text has; never many, so that a host knows which buffer is enough. The text of a valid
+    // value is one word, so that it can stand in a line of words.
+    fn width(&self, v: Self::Value) -> usize
+        ensures value { result ≡ length (text self.now v) }
+        ensures short { result ≤ 32 }
+        ensures word { (n : ℕ) → Self.WrittenForm.number self.now v ≡ Some n → OneWord (text self.now v) };
+
+    // Writes a value's text at the front of `out`, and answers its length; refused where the value is not valid.
+    fn print(&self, v: Self::Value, out: &mut [u8]) -> Result<usize, Refusal>
+        ensures value { result ≡ print_answer (is_some (Self.WrittenForm.number self.now v)) (text self.now v) (length out.old) }
+        ensures after { out.new ≡ print_after (is_some (Self.WrittenForm.number self.now v)) (text self.now v) out.old };
+
+    // The value that a text writes, or one that is not valid, so that it is refused where it is read.
+    fn value_of(&self, bytes: &[u8]) -> Self::Value
+        ensures value { result ≡ spelt self.now bytes.now }
+        ensures spells { Spells Self.Value (Self.WrittenForm.number self.now) (text self.now) bytes.now result };
 }

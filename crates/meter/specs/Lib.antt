@@ -11,3 +11,4 @@ pub mod Lookup
 pub mod Places
 pub mod Current
 pub mod Whole
+pub mod Meters

@@ -1,4 +1,5 @@
 -- The rules of a meter table, as tests on its division and its rows.
+--   beat_of    the ticks of a beat of a row: the 2^dd th part of a whole note
 --   bar_of     the ticks of a bar of a row: nn beats, a beat being the 2^dd th part of a whole note
 --   row_kept   a row is in range on its own, and its beat is a whole number of ticks
 --   next_kept  a row lies after the one before it, on a bar line of that one
@@ -7,6 +8,9 @@
 -- Assumes nothing.
 use Rattle.std.specs.Prelude.{ℕ, ◌-◌, ◌*◌, ◌/◌, ◌%◌, ◌^◌, Bool, false, ◌&&◌, List, [], ◌∷◌, length, ◌==◌, nat_le, nat_lt}
 use Rattle.meter.specs.declared.row.MeterRow.{MeterRow}
+
+abbrev pub beat_of : ℕ → MeterRow → ℕ
+beat_of division r = 4 * division / 2 ^ r.dd
 
 abbrev pub bar_of : ℕ → MeterRow → ℕ
 bar_of division r = r.nn * (4 * division / 2 ^ r.dd)

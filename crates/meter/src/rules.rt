@@ -1,6 +1,6 @@
 // The rules of a meter table, tried row by row.
 ghost use Rattle.std.specs.Prelude.{◌≡◌, ◌^◌, ◌<◌, ◌≤◌, true};
-ghost use Rattle.meter.specs.Rules.{bar_of, row_kept, next_kept, all_kept, kept};
+ghost use Rattle.meter.specs.Rules.{beat_of, bar_of, row_kept, next_kept, all_kept, kept};
 
 use crate::row::MeterRow;
 
@@ -11,6 +11,15 @@ fn denominator(dd: u8) -> u32
     ensures { result ≡ 2 ^ dd }
 {
     1 << dd
+}
+
+// The ticks of a beat.
+pub(crate) fn beat_ticks(division: u32, row: MeterRow) -> u32
+    requires { (division ≤ 32767) × (row.dd ≤ 6) }
+    ensures { result ≡ beat_of division row }
+{
+    let whole = 4 * division;
+    whole / denominator(row.dd)
 }
 
 // The ticks of a bar.

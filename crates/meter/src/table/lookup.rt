@@ -1,11 +1,12 @@
 // Bars and ticks looked up in a meter table.
 ghost use Rattle.std.specs.Prelude.{◌≡◌, ◌^◌, ◌≤◌, min};
+ghost use Rattle.meter.specs.Rules.{beat_of};
 ghost use Rattle.meter.specs.BarLines.{FirstAt, row_at};
 ghost use Rattle.meter.specs.Lies.{BarIn, TickIn};
 ghost use Rattle.meter.specs.Tables.{rows_of, bar_tick, bars_to, Lines};
 
 use crate::row::MeterRow;
-use crate::rules::bar_ticks;
+use crate::rules::{bar_ticks, beat_ticks};
 use crate::table::MeterTable;
 
 // The longest that a timebase can be.
@@ -56,5 +57,15 @@ impl MeterTable {
         ensures { result ≡ row_at (rows_of self.now) t }
     {
         self.rows[self.row_of_tick(t)]
+    }
+
+    // The beats of a bar, and the ticks of a beat, of the meter that is current at tick `t`.
+    pub fn beats_at(&self, t: u64) -> (u8, u32)
+        ensures beats { result.0 ≡ (row_at (rows_of self.now) t).nn }
+        ensures value { result.1 ≡ beat_of self.now.division (row_at (rows_of self.now) t) }
+        ensures bound { 1 ≤ result.1 }
+    {
+        let row = self.meter_at(t);
+        (row.nn, beat_ticks(self.division, row))
     }
 }

@@ -2,7 +2,7 @@
 -- Assumes nothing.
 use Rattle.std.specs.Prelude.{◌≡◌, ℕ, ◌+◌, ◌-◌, ◌*◌, ◌<◌, ◌≤◌, true, List, [], ◌∷◌, Some, refl}
 use Rattle.std.proofs.Common.{ap, ⊎_elim, mul_comm, arith}
-use Rattle.meter.specs.Rules.{beat-of, kept}
+use Rattle.meter.specs.Rules.{beat_of, kept}
 use Rattle.meter.specs.BarLines.{bar_start}
 use Rattle.meter.specs.declared.row.MeterRow.{MeterRow}
 use Rattle.forms.specs.Pairing.{Earlier}
@@ -35,12 +35,12 @@ position_lower d rows k v w m n e g before =
     let t = stands d rows w n g in
     let p : ℕ = v.bar - 1 in
     let q : ℕ = w.bar - 1 in
-    let at : ℕ → ℕ = λ x. tick_in (bar_start d rows x) (beat-of d (meter_of d rows x)) w in
+    let at : ℕ → ℕ = λ x. tick_in (bar_start d rows x) (beat_of d (meter_of d rows x)) w in
     ⊎_elim
     (λ bar. let up = line_le d rows (p + 1) q k (omega (arith, s.some_bar)) in
     omega (arith, (stands_lies d rows v m k s).not_next, up, (stands_lies d rows w n k t).begun))
     (λ same. let one : p ≡ q = ap (λ x. x - 1) same.0 in
-    let beat : ℕ = beat-of d (meter_of d rows p) in
+    let beat : ℕ = beat_of d (meter_of d rows p) in
     let less = lower_in (bar_start d rows p) beat v w s.some_beat s.tick< same.1 in
     omega (arith, less, s.is, t.is, ap at one))
     before

@@ -2,7 +2,7 @@
 ghost use Rattle.std.specs.Prelude.{◌≡◌, ℕ, ◌≤◌, List, ◌∷◌, length, None};
 ghost use Rattle.std.specs.Str.{bytes_eq};
 ghost use Rattle.meter.specs.declared.row.MeterRow.{MeterRow};
-ghost use Rattle.forms.specs.Texts.{One-word};
+ghost use Rattle.forms.specs.Texts.{OneWord};
 ghost use Rattle.text.specs.Decimal.{digits};
 ghost use Rattle.text.specs.Writer.{Appends, has_room};
 ghost use Rattle.bar_positions.specs.BarPositions.{no_position, position_number};
@@ -55,7 +55,7 @@ impl BarPosition {
     fn text_width(self) -> usize
         ensures value { result ≡ length (position_text self) }
         ensures short { result ≤ 20 }
-        ensures word { One-word (position_text self) }
+        ensures word { OneWord (position_text self) }
     {
         width(u64::from(self.bar)) + width(u64::from(self.beat)) + width(u64::from(self.tick)) + 2
     }

@@ -7,23 +7,23 @@ use Rattle.bar_positions.specs.Spellings.{position_text}
 use Rattle.bar_positions.proofs.Threes.{text_short, alone}
 use Rattle.bar_positions.proofs.position.BarPosition.has_text.Goals as goal
 
-pub returns-then-is-ok : goal.returns-then-is-ok
-returns-then-is-ok c =
+pub returns-then-is_ok : goal.returns-then-is_ok
+returns-then-is_ok c =
     let v = c.args.self in
     let few = text_short v (omega arith) (omega arith) (omega arith) in
     let room : length (position_text v) ≤ length c.new-w.result.out.now = rw c.new-w.ensures.buffer few in
-    let own = alone (position_text v) c.new-w.result c.write-text.new.w c.write-text.result
-    c.new-w.ensures.len room c.write-text.ensures in
+    let own = alone (position_text v) c.new-w.result c.write_text.new.w c.write_text.result
+    c.new-w.ensures.len room c.write_text.ensures in
     let is : c.text.result.now ≡ position_text v = c.text.ensures ∙ own.1 in
     same_from_decides _ _ (slice_eq-Decides Decides-eqb _ _ _ c.eq.ensures)
     (bytes_eq-Decides c.text.result.now c.args.text.now)
     ∙ ap (λ xs. bytes_eq xs c.args.text.now) is
 
-pub returns-else-is-ok : goal.returns-else-is-ok
-returns-else-is-ok c =
+pub returns-else-is_ok : goal.returns-else-is_ok
+returns-else-is_ok c =
     let v = c.args.self in
     let few = text_short v (omega arith) (omega arith) (omega arith) in
     let room : length (position_text v) ≤ length c.new-w.result.out.now = rw c.new-w.ensures.buffer few in
-    let own = alone (position_text v) c.new-w.result c.write-text.new.w c.write-text.result
-    c.new-w.ensures.len room c.write-text.ensures in
-    absurd (both_ways c.is-ok.result c.if-is-ok.false (c.is-ok.ensures.value ∙ ap is_ok own.0))
+    let own = alone (position_text v) c.new-w.result c.write_text.new.w c.write_text.result
+    c.new-w.ensures.len room c.write_text.ensures in
+    absurd (both_ways c.is_ok.result c.if-is_ok.false (c.is_ok.ensures.value ∙ ap is_ok own.0))

@@ -3,7 +3,7 @@
 use Rattle.std.specs.Prelude.{◌≡◌, ℕ, ◌+◌, ◌-◌, ◌*◌, ◌/◌, ◌%◌, ◌<◌, ◌≤◌, true, List, Some, refl}
 use Rattle.std.proofs.Common.{ap, subst, ◌∙◌, arith}
 use Rattle.std.proofs.lemmas.Nat.{div-add-mod', div-mul-add, mod-mul-add, div_below, mod_below}
-use Rattle.meter.specs.Rules.{beat-of, kept}
+use Rattle.meter.specs.Rules.{beat_of, kept}
 use Rattle.meter.specs.BarLines.{bar_start}
 use Rattle.meter.specs.declared.row.MeterRow.{MeterRow}
 use Rattle.forms.specs.Pairing.{Pairing, InOrder}
@@ -29,21 +29,21 @@ pub position_forth : (d : ℕ) (rows : List MeterRow) → kept d rows ≡ true �
 position_forth d rows k v n e =
     let s = stands d rows v n e in
     let p : ℕ = v.bar - 1 in
-    let beat : ℕ = beat-of d (meter_of d rows p) in
+    let beat : ℕ = beat_of d (meter_of d rows p) in
     let rest : n - bar_start d rows p ≡ (v.beat - 1) * beat + v.tick = omega (arith, s.is) in
     let beats-are : (n - bar_start d rows p) / beat ≡ v.beat - 1
     = ap (λ x. x / beat) rest ∙ div-mul-add (v.beat - 1) beat v.tick s.tick< in
     let ticks-are : (n - bar_start d rows p) % beat ≡ v.tick
     = ap (λ x. x % beat) rest ∙ mod-mul-add (v.beat - 1) beat v.tick s.tick< in
-    ap (λ q. written_in q (beat-of d (meter_of d rows q)) (n - bar_start d rows q))
+    ap (λ q. written_in q (beat_of d (meter_of d rows q)) (n - bar_start d rows q))
     (lies_reached d rows p n k (stands_lies d rows v n k s))
     ∙ written_is p beat (n - bar_start d rows p) v (omega (arith, s.some_bar)) (omega (arith, s.some_beat)) ticks-are
 
 -- what is written of a tick in bar p + 1 is a position of that bar, with that tick
 pub written_stands : (d : ℕ) (rows : List MeterRow) (p n : ℕ) → kept d rows ≡ true → p < 65535 → Lies d rows p n
-    → Stands d rows (written_in p (beat-of d (meter_of d rows p)) (n - bar_start d rows p)) n
+    → Stands d rows (written_in p (beat_of d (meter_of d rows p)) (n - bar_start d rows p)) n
 written_stands d rows p n k few l =
-    let beat : ℕ → ℕ = λ q. beat-of d (meter_of d rows q) in
+    let beat : ℕ → ℕ = λ q. beat_of d (meter_of d rows q) in
     let rest : ℕ = n - bar_start d rows p in
     let same : p ≡ p + 1 - 1 = omega arith in
     let b : Beats d rows p = beats d rows p k in

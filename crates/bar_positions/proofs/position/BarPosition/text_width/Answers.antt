@@ -4,24 +4,24 @@ use Rattle.text.proofs.Figures.{width_most}
 use Rattle.bar_positions.proofs.Threes.{text_length, text_short, text_word}
 use Rattle.bar_positions.proofs.position.BarPosition.text_width.Goals as goal
 
-pub overflow-add-result : goal.overflow-add-result
-overflow-add-result c =
-    let a = width_most c.from.result c.from.type-inv in
-    let b = width_most c.from-2.result c.from-2.type-inv in
+pub overflow_add-result : goal.overflow_add-result
+overflow_add-result c =
+    let a = width_most c.from.result c.from.type_inv in
+    let b = width_most c.from-2.result c.from-2.type_inv in
     omega arith
 
-pub overflow-add-result-2 : goal.overflow-add-result-2
-overflow-add-result-2 c =
-    let a = width_most c.from.result c.from.type-inv in
-    let b = width_most c.from-2.result c.from-2.type-inv in
-    let d = width_most c.from-3.result c.from-3.type-inv in
+pub overflow_add-result-2 : goal.overflow_add-result-2
+overflow_add-result-2 c =
+    let a = width_most c.from.result c.from.type_inv in
+    let b = width_most c.from-2.result c.from-2.type_inv in
+    let d = width_most c.from-3.result c.from-3.type_inv in
     omega arith
 
-pub overflow-add-result-3 : goal.overflow-add-result-3
-overflow-add-result-3 c =
-    let a = width_most c.from.result c.from.type-inv in
-    let b = width_most c.from-2.result c.from-2.type-inv in
-    let d = width_most c.from-3.result c.from-3.type-inv in
+pub overflow_add-result-3 : goal.overflow_add-result-3
+overflow_add-result-3 c =
+    let a = width_most c.from.result c.from.type_inv in
+    let b = width_most c.from-2.result c.from-2.type_inv in
+    let d = width_most c.from-3.result c.from-3.type_inv in
     omega arith
 
 pub returns : goal.returns

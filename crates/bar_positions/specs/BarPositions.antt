@@ -13,7 +13,7 @@
 --   position_parts   a position's parts, the weightiest first
 -- Assumes nothing.
 use Rattle.std.specs.Prelude.{ℕ, ◌+◌, ◌-◌, ◌*◌, ◌/◌, ◌%◌, Bool, cond, ◌&&◌, List, [], ◌∷◌, Some, None, Option, nat_le, nat_lt}
-use Rattle.meter.specs.Rules.{beat-of}
+use Rattle.meter.specs.Rules.{beat_of}
 use Rattle.meter.specs.BarLines.{bar_start, bars_begun, row_at}
 use Rattle.meter.specs.declared.row.MeterRow.{MeterRow}
 use Rattle.bar_positions.specs.declared.position.BarPosition.{BarPosition}
@@ -30,7 +30,7 @@ stands_in beats beat v = nat_le 1 v.beat && nat_le v.beat beats && nat_lt v.tick
 abbrev pub valid : ℕ → List MeterRow → BarPosition → Bool
 valid division rows v =
     let r : MeterRow = meter_of division rows (v.bar - 1) in
-    nat_le 1 v.bar && nat_le v.bar last_bar && stands_in r.nn (beat-of division r) v
+    nat_le 1 v.bar && nat_le v.bar last_bar && stands_in r.nn (beat_of division r) v
 
 abbrev pub tick_in : ℕ → ℕ → BarPosition → ℕ
 tick_in start beat v = start + (v.beat - 1) * beat + v.tick
@@ -38,7 +38,7 @@ tick_in start beat v = start + (v.beat - 1) * beat + v.tick
 abbrev pub position_number : ℕ → List MeterRow → BarPosition → Option ℕ
 position_number division rows v =
     cond (valid division rows v)
-    (Some (tick_in (bar_start division rows (v.bar - 1)) (beat-of division (meter_of division rows (v.bar - 1))) v))
+    (Some (tick_in (bar_start division rows (v.bar - 1)) (beat_of division (meter_of division rows (v.bar - 1))) v))
     None
 
 abbrev pub position_count : ℕ → List MeterRow → ℕ
@@ -53,7 +53,7 @@ written_in p beat rest = record { bar = p + 1; beat = rest / beat + 1; tick = re
 abbrev pub position_of : ℕ → List MeterRow → ℕ → BarPosition
 position_of division rows n =
     let p : ℕ = bar_reached division rows n in
-    written_in p (beat-of division (meter_of division rows p)) (n - bar_start division rows p)
+    written_in p (beat_of division (meter_of division rows p)) (n - bar_start division rows p)
 
 abbrev pub no_position : BarPosition
 no_position = record { bar = 0; beat = 1; tick = 0 }

@@ -8,7 +8,7 @@ use Rattle.std.specs.Prelude.{◌≡◌, ℕ, ◌+◌, ◌-◌, ◌*◌, ◌<◌
 use Rattle.std.proofs.Common.{mul_comm, arith}
 use Rattle.std.proofs.lemmas.Nat.{mul-add-lt}
 use Rattle.std.proofs.lemmas.Bool.Decides.{nat_tests}
-use Rattle.meter.specs.Rules.{beat-of, kept}
+use Rattle.meter.specs.Rules.{beat_of, kept}
 use Rattle.meter.specs.BarLines.{bar_start}
 use Rattle.meter.specs.declared.row.MeterRow.{MeterRow}
 use Rattle.bar_positions.specs.BarPositions.{meter_of, valid, tick_in, position_number}
@@ -20,8 +20,8 @@ pub record Stands (d : ℕ) (rows : List MeterRow) (v : BarPosition) (n : ℕ) :
   pub few_bars : v.bar ≤ 65535
   pub some_beat : 1 ≤ v.beat
   pub few_beats : v.beat ≤ (meter_of d rows (v.bar - 1)).nn
-  pub tick< : v.tick < beat-of d (meter_of d rows (v.bar - 1))
-  pub is : tick_in (bar_start d rows (v.bar - 1)) (beat-of d (meter_of d rows (v.bar - 1))) v ≡ n
+  pub tick< : v.tick < beat_of d (meter_of d rows (v.bar - 1))
+  pub is : tick_in (bar_start d rows (v.bar - 1)) (beat_of d (meter_of d rows (v.bar - 1))) v ≡ n
 
 some_from : (v : Bool) (x n : ℕ) → cond v (Some x) None ≡ Some n → (v ≡ true) × (x ≡ n)
 some_from true x n e = (refl, (cc))
@@ -34,7 +34,7 @@ pub stands : (d : ℕ) (rows : List MeterRow) (v : BarPosition) (n : ℕ) → po
     → Stands d rows v n
 stands d rows v n e =
     let p : ℕ = v.bar - 1 in
-    let h = some_from (valid d rows v) (tick_in (bar_start d rows p) (beat-of d (meter_of d rows p)) v) n e in
+    let h = some_from (valid d rows v) (tick_in (bar_start d rows p) (beat_of d (meter_of d rows p)) v) n e in
     let has : valid d rows v ≡ true = h.0 in
     record {
       some_bar = grind (arith, nat_tests);
@@ -52,7 +52,7 @@ pub numbered : (d : ℕ) (rows : List MeterRow) (v : BarPosition) (n : ℕ) → 
     → position_number d rows v ≡ Some n
 numbered d rows v n s =
     let p : ℕ = v.bar - 1 in
-    let t : ℕ = tick_in (bar_start d rows p) (beat-of d (meter_of d rows p)) v in
+    let t : ℕ = tick_in (bar_start d rows p) (beat_of d (meter_of d rows p)) v in
     some_to (valid d rows v) t n (stands_valid d rows v n s) s.is
 
 pub stands_lies : (d : ℕ) (rows : List MeterRow) (v : BarPosition) (n : ℕ) → kept d rows ≡ true → Stands d rows v n
@@ -60,7 +60,7 @@ pub stands_lies : (d : ℕ) (rows : List MeterRow) (v : BarPosition) (n : ℕ) �
 stands_lies d rows v n k s =
     let p : ℕ = v.bar - 1 in
     let nn : ℕ = (meter_of d rows p).nn in
-    let beat : ℕ = beat-of d (meter_of d rows p) in
+    let beat : ℕ = beat_of d (meter_of d rows p) in
     let in-bar : (v.beat - 1) * beat + v.tick < beat * nn =
     mul-add-lt (v.beat - 1) beat v.tick nn (omega (arith, s.some_beat, s.few_beats)) s.tick< in
     record {

@@ -1,7 +1,7 @@
 -- The text of a valid position is read back, and no other text is.
 --   Held              the parts of a position fit their fields
 --   valid_held        those of a valid position do
---   read-back         such a position is read from its own text
+--   read_back         such a position is read from its own text
 --   spells_position   what a text writes
 -- Assumes nothing.
 use Rattle.std.proofs.Common.{◌≡◌, ℕ, ◌-◌, ◌*◌, ◌^◌, ◌<◌, ◌≤◌, Bool, true, false, cond, List, ◌∷◌, ◌++◌, Some, sym, refl, ap, ◌∙◌, div-le_self, arith}
@@ -11,7 +11,7 @@ use Rattle.std.proofs.lemmas.Bool.{le-leb, cond-true}
 use Rattle.meter.specs.Rules.{kept}
 use Rattle.meter.specs.BarLines.{bar_start}
 use Rattle.meter.specs.declared.row.MeterRow.{MeterRow}
-use Rattle.meter.proofs.Meters.{metered}
+use Rattle.meter.specs.Meters.{metered}
 use Rattle.forms.specs.Texts.{Spells}
 use Rattle.text.specs.Decimal.{digits, plain}
 use Rattle.text.proofs.Figures.{plain_digits}

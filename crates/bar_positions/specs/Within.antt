@@ -9,13 +9,13 @@ use Rattle.std.specs.Prelude.{◌≡◌, ℕ, ◌+◌, ◌-◌, ◌*◌, ◌<◌
 use Rattle.std.proofs.Common.{ap, inl, inr, arith}
 use Rattle.std.proofs.lemmas.Nat.{mul-le}
 use Rattle.std.proofs.lemmas.Bool.{cases_lt}
-use Rattle.meter.specs.Rules.{beat-of, kept}
+use Rattle.meter.specs.Rules.{beat_of, kept}
 use Rattle.meter.specs.BarLines.{bar_start, bars_begun, FirstAt}
 use Rattle.meter.specs.declared.row.MeterRow.{MeterRow}
 use Rattle.meter.specs.Found.{lines_start, lines_rise, lines_follow}
-use Rattle.rows.proofs.Strict.{never_falls}
+use Rattle.meter.specs.Rising.{rises_over}
 use Rattle.meter.specs.Lines.{counted_first, first_counted}
-use Rattle.meter.proofs.Meters.{Metered, metered, beat-some}
+use Rattle.meter.specs.Meters.{Metered, metered, beat_some}
 use Rattle.bar_positions.specs.BarPositions.{meter_of, bar_reached, position_count}
 use Rattle.bar_positions.specs.Reached.{Reached}
 
@@ -25,7 +25,12 @@ pub record Lies (d : ℕ) (rows : List MeterRow) (p n : ℕ) : Type 0 where
 
 pub line_le : (d : ℕ) (rows : List MeterRow) (p q : ℕ) → kept d rows ≡ true → p ≤ q
     → bar_start d rows p ≤ bar_start d rows q
-line_le d rows p q k h = never_falls (bar_start d rows) (λ b. lines_rise d rows b k) p q h
+line_le d rows p q k h =
+    let f : ℕ → ℕ = bar_start d rows in
+    elim (cases_lt p q) [
+      | inl lt ↦ omega (arith, rises_over f (λ b. lines_rise d rows b k) p q lt)
+      | inr ge ↦ let e : p ≡ q = omega arith in omega (arith, ap f e)
+    ]
 
 -- tick 0 is a bar line, so a bar has begun at every tick
 pub some_begun : (d : ℕ) (rows : List MeterRow) (n : ℕ) → kept d rows ≡ true → 1 ≤ bars_begun d rows (n + 1)
@@ -59,15 +64,15 @@ lies_reached d rows p n k l =
     omega (arith, first_counted f (λ b. lines_rise d rows b k) (n + 1) (p + 1) first)
 
 pub record Beats (d : ℕ) (rows : List MeterRow) (p : ℕ) : Type 0 where
-  pub some : 1 ≤ beat-of d (meter_of d rows p)
+  pub some : 1 ≤ beat_of d (meter_of d rows p)
   pub few : (meter_of d rows p).nn ≤ 64
-  pub whole : bar_start d rows (p + 1) ≡ bar_start d rows p + (meter_of d rows p).nn * beat-of d (meter_of d rows p)
+  pub whole : bar_start d rows (p + 1) ≡ bar_start d rows p + (meter_of d rows p).nn * beat_of d (meter_of d rows p)
 
 pub beats : (d : ℕ) (rows : List MeterRow) (p : ℕ) → kept d rows ≡ true → Beats d rows p
 beats d rows p k =
     let m : Metered d rows (bar_start d rows p) = metered d rows (bar_start d rows p) k in
     record {
-      some = beat-some d rows (bar_start d rows p) k;
+      some = beat_some d rows (bar_start d rows p) k;
       few = m.range.few_beats;
       whole = lines_follow d rows p k;
     }
@@ -76,7 +81,7 @@ pub reached : (d : ℕ) (rows : List MeterRow) (n : ℕ) → kept d rows ≡ tru
     → Reached d rows n (bar_reached d rows n)
 reached d rows n k h =
     let p : ℕ = bar_reached d rows n in
-    let beat : ℕ = beat-of d (meter_of d rows p) in
+    let beat : ℕ = beat_of d (meter_of d rows p) in
     let l : Lies d rows p n = reached_lies d rows n k in
     let b : Beats d rows p = beats d rows p k in
     let same : beat ≤ beat = omega arith in

@@ -14,7 +14,7 @@ use Rattle.std.proofs.ByRecursion.{All-append, All-from_get_or}
 use Rattle.std.proofs.lemmas.Str.Parse.{digit_at}
 use Rattle.std.proofs.lemmas.Bool.{le-leb, leb-true, cond-true}
 use Rattle.refusal.specs.declared.Refusal.{Refusal}
-use Rattle.forms.specs.Texts.{Visible, One-word}
+use Rattle.forms.specs.Texts.{Visible, OneWord}
 use Rattle.text.specs.declared.writer.TextWriter.{TextWriter}
 use Rattle.text.specs.Decimal.{digits}
 use Rattle.text.specs.Writer.{written, fits_after, has_room, Appends}
@@ -42,7 +42,7 @@ digits_visible n small =
     let figures = (decimal_is_IsNumeral n small).0.1 in
     All-from_get_or Visible (digits n) 0 (λ i inside. let d = digit_at (digits n) i figures inside in omega arith)
 
-pub text_word : (v : BarPosition) → v.bar < 65536 → v.beat < 256 → v.tick < 4294967296 → One-word (position_text v)
+pub text_word : (v : BarPosition) → v.bar < 65536 → v.beat < 256 → v.tick < 4294967296 → OneWord (position_text v)
 text_word v bar beat tick =
     let stop : Visible 46 = omega arith in
     let last : AllByRecursion Visible (46 ∷ digits v.tick) = (stop, digits_visible v.tick (omega arith)) in
