@@ -1,9 +1,9 @@
 -- The layers: what each makes of the timebase below it.
---   Pair          back s is the least argument at which g is at least s
---   Ahead         g is never below its argument
---   on_samples    the meaning of a layer that changes samples by g: it ends where a result passes the last sample
---   checked       what such a layer makes of the lower timebase's sample: refused where the result passes the last sample
---   on_positions  the meaning of a layer that changes positions by g: it ends where a result reaches the lower length
+--   Pair             back s is the least argument at which g is at least s
+--   Ahead            g is never below its argument
+--   on_samples       the meaning of a layer that changes samples by g: it ends where a result passes the last sample
+--   checked          what such a layer makes of the lower timebase's sample: refused where the result passes the last sample
+--   on_positions     the meaning of a layer that changes positions by g: it ends where a result reaches the lower length
 --   delay_refusal, varispeed_refusal, start_refusal
 --                    what making a layer is refused by
 --   delayed, slid    delay by k: s + k, and back

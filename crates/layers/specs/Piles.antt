@@ -7,8 +7,8 @@
 --                   what locate answers layer by layer, from what it answers below
 --   asks_place, placed_through
 --                   what place answers layer by layer, from what it answers below
---   Answers    locate and place answer for a sound meaning
---   Agreement  locate(s) is at or before p exactly where s is at or before place(p)
+--   Answers         locate and place answer for a sound meaning
+--   Agreement       locate(s) is at or before p exactly where s is at or before place(p)
 --   PlaceAndLocateAgree
 --                   the law: whatever is piled on a base that answers, answers, and its two answers agree
 -- Assumes nothing.
