@@ -1,7 +1,7 @@
 // What every written form answers.
 ghost use Rattle.std.specs.Prelude.{◌≡◌, ℕ, ◌^◌, ◌<◌, ◌≤◌, List, length, Some, Option, is_some};
 ghost use Rattle.forms.specs.Pairing.{Pairing, InOrder, read_as, written_as};
-ghost use Rattle.forms.specs.Texts.{print_answer, print_after, Spells, OneWord};
+ghost use Rattle.forms.specs.Texts.{print_text_answer, print_text_after, Spells, OneWord};
 
 use refusal::Refusal;
 
@@ -51,8 +51,8 @@ pub trait TextForm: WrittenForm {
 
     // Writes a value's text at the front of `out`, and answers its length; refused where the value is not valid.
     fn print(&self, v: Self::Value, out: &mut [u8]) -> Result<usize, Refusal>
-        ensures value { result ≡ print_answer (is_some (Self.WrittenForm.number self.now v)) (text self.now v) (length out.old) }
-        ensures after { out.new ≡ print_after (is_some (Self.WrittenForm.number self.now v)) (text self.now v) out.old };
+        ensures value { result ≡ print_text_answer (is_some (Self.WrittenForm.number self.now v)) (text self.now v) (length out.old) }
+        ensures after { out.new ≡ print_text_after (is_some (Self.WrittenForm.number self.now v)) (text self.now v) out.old };
 
     // The value that a text writes, or one that is not valid, so that it is refused where it is read.
     fn value_of(&self, bytes: &[u8]) -> Self::Value
