@@ -4,8 +4,9 @@
 usage: python3 tools/respell.py      at the top of the repository, once, after the kit's own script
 
 A name is one that a file of specs/, or a lemma file of proofs/, defines at its left margin, in a module of its own
-there or below a where, or a field or case of a record or data. In a file that imports the same word from the kit's library the word is left. Functions of src/,
-strings, inputs and outputs keep their names; in pages only what stands in backticks is turned.
+there or below a where, or a field or case of a record or data. In a file that imports the same word from the kit's
+library the word is left. Functions of src/, strings, inputs and outputs keep their names; in pages only what stands in
+backticks is turned.
 """
 
 import glob
