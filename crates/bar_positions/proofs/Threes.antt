@@ -1,24 +1,20 @@
--- The text of a position: how long it is, that it is one word, and its three parts written one after another.
+-- The text of a position: how long it is, and that it is one word.
 --   text_length     the length of a text by those of its parts
 --   text_short      the text of a position that the fields hold is short
 --   text_word       and one word
---   room            there is room for the whole text
---   first, second   then the calls on the way do not refuse
---   whole           and all three append the whole text
 --   alone           a text that is written first, with room for it, is all that a writer holds
 -- Assumes nothing.
-use Rattle.std.proofs.Common.{◌≡◌, ℕ, ◌+◌, ◌^◌, ◌<◌, ◌≤◌, true, List, [], ◌∷◌, ◌++◌, length, take, Ok, Result, sym, ap, ◌∙◌, subst, append_assoc, arith, length-append}
+use Rattle.std.proofs.Common.{◌≡◌, ℕ, ◌+◌, ◌^◌, ◌<◌, ◌≤◌, true, List, ◌∷◌, ◌++◌, length, take, Ok, Result, ap, ◌∙◌, arith, length-append}
 use Rattle.std.specs.List.{AllByRecursion}
 use Rattle.std.proofs.lemmas.Fmt.{decimal_is_IsNumeral, length-decimal-le}
 use Rattle.std.proofs.ByRecursion.{All-append, All-from_get_or}
 use Rattle.std.proofs.lemmas.Str.Parse.{digit_at}
-use Rattle.std.proofs.lemmas.Bool.{le-leb, leb-true, cond-true}
+use Rattle.std.proofs.lemmas.Bool.{le-leb, cond-true}
 use Rattle.refusal.specs.declared.Refusal.{Refusal}
 use Rattle.forms.specs.Texts.{Visible, OneWord}
 use Rattle.text.specs.declared.writer.TextWriter.{TextWriter}
 use Rattle.text.specs.Decimal.{digits}
-use Rattle.text.specs.Writer.{written, fits_after, has_room, Appends}
-use Rattle.text.proofs.Chains.{Grew, grew_none, grow_on, two_texts, grown_whole}
+use Rattle.text.specs.Writer.{written, fits_after, Appends}
 use Rattle.bar_positions.specs.Spellings.{position_text}
 use Rattle.bar_positions.specs.declared.position.BarPosition.{BarPosition}
 
@@ -52,38 +48,7 @@ text_word v bar beat tick =
       visible = All-append Visible (digits v.bar) _ (digits_visible v.bar (omega arith)) (stop, rest);
     }
 
-abbrev Said : Type 0
-Said = Result (Unit {0}) Refusal
-
-abbrev Room : BarPosition → TextWriter → Type 0
-Room v a = a.len + length (position_text v) ≤ length a.out.now
-
-pub room : (v : BarPosition) (a : TextWriter) → true ≡ has_room (length (position_text v)) a → Room v a
-room v a test = leb-true (a.len + length (position_text v)) (length a.out.now) (sym test)
-
-pub first : (v : BarPosition) (a b : TextWriter) (p : Said) → Room v a → Appends (digits v.bar) a b p → p ≡ Ok tt
-first v a b p fits h =
-    let n = text_length v in
-    (grow_on [] (digits v.bar) a a b p (grew_none a (omega arith)) h (omega arith)).0
-
-pub second : (v : BarPosition) (a b c : TextWriter) (p q : Said) → Room v a → Appends (digits v.bar) a b p
-    → Appends (46 ∷ digits v.beat) b c q → (q ≡ Ok tt) × Grew (digits v.bar ++ (46 ∷ digits v.beat)) a c
-second v a b c p q fits h k =
-    let n = text_length v in
-    let g = two_texts (digits v.bar) (46 ∷ digits v.beat) a b c p q (omega arith) h k in
-    (g.1, g.2)
-
-pub whole : (v : BarPosition) (a b c d : TextWriter) (p q r : Said) → Room v a → Appends (digits v.bar) a b p
-    → Appends (46 ∷ digits v.beat) b c q → Appends (46 ∷ digits v.tick) c d r → Appends (position_text v) a d r
-whole v a b c d p q r fits h k l =
-    let n = text_length v in
-    let front : List ℕ = digits v.bar ++ (46 ∷ digits v.beat) in
-    let m = length-append (digits v.bar) (46 ∷ digits v.beat) in
-    let z = grow_on front (46 ∷ digits v.tick) a c d r (second v a b c p q fits h k).1 l (omega arith) in
-    let same = append_assoc (digits v.bar) (46 ∷ digits v.beat) (46 ∷ digits v.tick) in
-    subst (λ y. Appends y a d r) same (grown_whole _ a d r z.0 z.1)
-
-pub alone : (text : List ℕ) (a b : TextWriter) (r : Said) → a.len ≡ 0 → length text ≤ length a.out.now
+pub alone : (text : List ℕ) (a b : TextWriter) (r : Result (Unit {0}) Refusal) → a.len ≡ 0 → length text ≤ length a.out.now
     → Appends text a b r → (r ≡ Ok tt) × (written b ≡ text)
 alone text a b r none fits h =
     let test : fits_after text a.len a.out.now ≡ true = le-leb _ _ (omega arith) in

@@ -13,7 +13,7 @@ use Rattle.meter.specs.Rules.{beat_of, kept}
 use Rattle.meter.specs.BarLines.{bar_start, bars_begun, FirstAt}
 use Rattle.meter.specs.declared.row.MeterRow.{MeterRow}
 use Rattle.meter.specs.Found.{lines_start, lines_rise, lines_follow}
-use Rattle.meter.specs.Rising.{rises_over}
+use Rattle.rows.proofs.Strict.{rises_over}
 use Rattle.meter.specs.Lines.{counted_first, first_counted}
 use Rattle.meter.specs.Meters.{Metered, metered, beat_some}
 use Rattle.bar_positions.specs.BarPositions.{meter_of, bar_reached, position_count}

@@ -1,6 +1,5 @@
 // Bar positions: positions in ticks written as bar, beat and tick of a meter table.
 #![tactic(auto)]
 
-mod parts;
 pub mod position;
 pub mod spelling;

@@ -1,7 +1,8 @@
 // Positions in ticks, written as bar, beat and tick.
 ghost use Rattle.std.specs.Prelude.{◌≡◌, ◌+◌, ◌*◌, ◌^◌, ◌<◌, ◌≤◌};
+ghost use Rattle.meter.specs.Rules.{beat_of};
 ghost use Rattle.meter.specs.Tables.{rows_of, bar_tick, bars_to};
-ghost use Rattle.bar_positions.specs.BarPositions.{stands_in, tick_in, written_in, position_number, position_count, position_of, position_parts};
+ghost use Rattle.bar_positions.specs.BarPositions.{meter_of, stands_in, tick_in, written_in, position_number, position_count, position_of, position_parts};
 ghost use Rattle.bar_positions.specs.Reached.{Reached};
 ghost use Rattle.bar_positions.specs.Laws.{position_paired, position_ordered};
 
@@ -19,30 +20,42 @@ pub struct BarPosition {
     pub tick: u32,
 }
 
+// A bar of a meter table: its number, counted from 0, where it begins, its beats, and the ticks of each.
+#[derive(Clone, Copy)]
+struct Bar {
+    number: u64,
+    start: u64,
+    beats: u8,
+    beat: u32,
+    ghost named: { number < 65535 },
+    ghost early: { start ≤ 2 ^ 39 },
+    ghost some: { 1 ≤ beat },
+}
+
 impl BarPosition {
-    // Whether beat and tick stand in a bar of `beats` beats of `beat` ticks.
-    fn stands_in(self, beats: u8, beat: u32) -> bool
-        ensures { result ≡ stands_in beats beat self }
+    // Whether beat and tick stand in a bar.
+    fn stands_in(self, bar: Bar) -> bool
+        ensures { result ≡ stands_in bar.beats bar.beat self }
     {
-        1 <= self.beat && self.beat <= beats && self.tick < beat
+        1 <= self.beat && self.beat <= bar.beats && self.tick < bar.beat
     }
 
-    // The position's tick, its bar beginning at `start`.
-    fn tick_in(self, start: u64, beat: u32) -> u64
-        requires { (1 ≤ self.beat) × (start ≤ 2 ^ 39) }
-        ensures { result ≡ tick_in start beat self }
+    // The position's tick, in its bar.
+    fn tick_in(self, bar: Bar) -> u64
+        requires { 1 ≤ self.beat }
+        ensures { result ≡ tick_in bar.start bar.beat self }
     {
-        start + u64::from(self.beat - 1) * u64::from(beat) + u64::from(self.tick)
+        bar.start + u64::from(self.beat - 1) * u64::from(bar.beat) + u64::from(self.tick)
     }
 
-    // The position `rest` ticks into a bar, the bar counted from 0.
-    fn written_in(bar: u64, beat: u32, rest: u64) -> BarPosition
-        requires { (bar < 65535) × ((1 ≤ beat) × (rest < 64 * beat)) }
-        ensures { result ≡ written_in bar beat rest }
+    // The position `rest` ticks into a bar.
+    fn written_in(bar: Bar, rest: u64) -> BarPosition
+        requires { rest < 64 * bar.beat }
+        ensures { result ≡ written_in bar.number bar.beat rest }
     {
-        let beat = u64::from(beat);
+        let beat = u64::from(bar.beat);
         BarPosition {
-            bar: (bar + 1) as u16,
+            bar: (bar.number + 1) as u16,
             beat: (rest / beat + 1) as u8,
             tick: (rest % beat) as u32,
         }
@@ -63,6 +76,24 @@ impl BarPositions {
         ensures bound { result ≤ 2 ^ 39 }
     {
         self.meter.bar_tick(p)
+    }
+
+    // The bar of a number.
+    fn bar(&self, number: u64) -> Bar
+        requires { number < 65535 }
+        ensures number { result.number ≡ number }
+        ensures start { result.start ≡ bar_tick self.now.meter number }
+        ensures beats { result.beats ≡ (meter_of self.now.meter.division (rows_of self.now.meter) number).nn }
+        ensures beat { result.beat ≡ beat_of self.now.meter.division (meter_of self.now.meter.division (rows_of self.now.meter) number) }
+    {
+        let start = self.start_of(number);
+        let (beats, beat) = self.meter.beats_at(start);
+        Bar {
+            number,
+            start,
+            beats,
+            beat,
+        }
     }
 
     // The bars that begin at or before tick `n`.
@@ -106,21 +137,18 @@ impl WrittenForm for BarPositions {
         if v.bar < 1 {
             return Err(Refusal::NotWritten);
         }
-        let start = self.start_of(u64::from(v.bar - 1));
-        let (beats, beat) = self.meter.beats_at(start);
-        if !v.stands_in(beats, beat) {
+        let bar = self.bar(u64::from(v.bar - 1));
+        if !v.stands_in(bar) {
             return Err(Refusal::NotWritten);
         }
-        Ok(v.tick_in(start, beat))
+        Ok(v.tick_in(bar))
     }
 
     fn write(&self, n: u64) -> Result<BarPosition, Refusal> {
         if n >= self.count() {
             return Err(Refusal::NotBelowCount);
         }
-        let bar = self.bar_reached(n);
-        let start = self.start_of(bar);
-        let (_, beat) = self.meter.beats_at(start);
-        Ok(BarPosition::written_in(bar, beat, n - start))
+        let bar = self.bar(self.bar_reached(n));
+        Ok(BarPosition::written_in(bar, n - bar.start))
     }
 }

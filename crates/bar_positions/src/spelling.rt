@@ -1,17 +1,17 @@
 // Bar positions as text, `BAR.BEAT.TICK`.
-ghost use Rattle.std.specs.Prelude.{◌≡◌, ℕ, ◌≤◌, List, ◌∷◌, length, None};
+ghost use Rattle.std.specs.Prelude.{◌≡◌, ℕ, ◌≤◌, List, ◌∷◌, length, Some, None, IfSome};
 ghost use Rattle.std.specs.Str.{bytes_eq};
 ghost use Rattle.meter.specs.declared.row.MeterRow.{MeterRow};
 ghost use Rattle.forms.specs.Texts.{OneWord};
 ghost use Rattle.text.specs.Decimal.{digits};
 ghost use Rattle.text.specs.Writer.{Appends, has_room};
 ghost use Rattle.bar_positions.specs.BarPositions.{no_position, position_number};
-ghost use Rattle.bar_positions.specs.Spellings.{position_text, parts_read, position_spelt};
+ghost use Rattle.bar_positions.specs.Spellings.{Held, position_text, position_spelt};
 
-use crate::parts::{cut, part_number};
 use crate::position::{BarPosition, BarPositions};
 use forms::form::{TextForm, WrittenForm};
 use refusal::Refusal;
+use std::str;
 use text::decimal::width;
 use text::writer::TextWriter;
 
@@ -27,7 +27,8 @@ fn write_next(w: &mut TextWriter, n: u64) -> Result<(), Refusal>
 }
 
 impl BarPosition {
-    // A position that no table has, to stand for a text that writes none.
+    // A position that no table has, to stand for a text that writes none: a deck asks of a cue's number before it asks of
+    // its position, so the position must come as one that is refused later.
     pub fn invalid() -> BarPosition
         ensures value { result ≡ no_position }
         ensures refused { (division : ℕ) (rows : List MeterRow) → position_number division rows result ≡ None }
@@ -39,17 +40,19 @@ impl BarPosition {
         }
     }
 
-    // The position whose parts a text seems to have.
-    fn parts_read(text: &[u8]) -> BarPosition
-        ensures { result ≡ parts_read text.now }
+    // The position whose parts a text seems to have; its own text is asked for afterwards.
+    fn parts_read(text: &[u8]) -> Option<BarPosition>
+        ensures own { (v : BarPosition) → Held v → text.now ≡ position_text v → result ≡ Some v }
+        ensures held { IfSome result Held }
     {
-        let (bar, rest) = cut(text);
-        let (beat, tick) = cut(rest);
-        BarPosition {
-            bar: part_number(bar, u64::from(u16::MAX)) as u16,
-            beat: part_number(beat, u64::from(u8::MAX)) as u8,
-            tick: part_number(tick, u64::from(u32::MAX)) as u32,
-        }
+        let text = str::from_utf8(text).ok()?;
+        let (bar, rest) = text.split_once('.')?;
+        let (beat, tick) = rest.split_once('.')?;
+        Some(BarPosition {
+            bar: bar.parse().ok()?,
+            beat: beat.parse().ok()?,
+            tick: tick.parse().ok()?,
+        })
     }
 
     fn text_width(self) -> usize
@@ -92,12 +95,9 @@ impl BarPosition {
     fn spelt(text: &[u8]) -> BarPosition
         ensures { result ≡ position_spelt text.now }
     {
-        let position = BarPosition::parts_read(text);
-        if position.has_text(text) {
-            position
-        } else {
-            BarPosition::invalid()
-        }
+        BarPosition::parts_read(text)
+            .filter(|position| position.has_text(text))
+            .unwrap_or(BarPosition::invalid())
     }
 }
 
@@ -111,14 +111,9 @@ impl TextForm for BarPositions {
     }
 
     fn print(&self, v: BarPosition, out: &mut [u8]) -> Result<usize, Refusal> {
-        if self.read(v).is_err() {
-            return Err(Refusal::NotWritten);
-        }
-        let mut w = TextWriter::new(out);
-        match v.write_text(&mut w) {
-            Ok(()) => Ok(self.width(v)),
-            Err(why) => Err(why),
-        }
+        self.read(v)?;
+        v.write_text(&mut TextWriter::new(out))?;
+        Ok(self.width(v))
     }
 
     fn value_of(&self, bytes: &[u8]) -> BarPosition {

@@ -1,3 +1,3 @@
-pub mod Entering
-pub mod Halves
+pub mod Found
 pub mod Moves
+pub mod Rises

@@ -1,20 +1,12 @@
 -- What moving cues by one place and one write leave of the first n places. Assumes nothing.
-use Rattle.std.proofs.Common.{◌≡◌, ℕ, suc, ◌+◌, ◌-◌, ◌<◌, ◌≤◌, min, List, ◌∷◌, ◌++◌, length, take, drop, set, sym, refl, ap, ◌∙◌, inl, inr, append_assoc, add-one, arith}
+use Rattle.std.proofs.Common.{◌≡◌, ℕ, suc, ◌+◌, ◌-◌, ◌<◌, ◌≤◌, min, List, ◌∷◌, ◌++◌, length, take, drop, set, sym, refl, ap, ◌∙◌, append_assoc, add-one, arith}
 use Rattle.std.proofs.Math.Seq.{paste}
-use Rattle.std.proofs.lemmas.List.{take-take, drop-take, take_at, drop_at, set_split, length-take, length-drop, length-append, take_all, take-append-le, length-take-le}
-use Rattle.std.proofs.lemmas.Bool.{cases_lt}
+use Rattle.std.proofs.lemmas.List.{take-take, drop-take, take_at, drop_at, set_split, length-take, length-drop, length-append, take-append-le, length-take-le}
 use Rattle.std.proofs.lemmas.List.Edits.{take-paste}
+use Rattle.std.proofs.lemmas.Grind.{common_steps}
 use Rattle.std.specs.List.{insert, remove}
 
 module _ {X : Type 0} (xs : List X) where
-  -- the first n, as a slice of at most the memory's length
-  pub taken_min : (n : ℕ) → take (min n (length xs) - 0) xs ≡ take n xs
-  taken_min n = elim (cases_lt n (length xs)) [
-    | inl below ↦ let e : min n (length xs) - 0 ≡ n = omega arith in ap (λ k. take k xs) e
-    | inr past ↦ let e : min n (length xs) - 0 ≡ length xs = omega arith in
-        ap (λ k. take k xs) e ∙ take_all (length xs) xs (omega arith) ∙ sym (take_all n xs past)
-  ]
-
   pub moved_up : (i n : ℕ) (c : X) → i ≤ n → n < length xs
       → take (n + 1) (set (paste xs (i + 1) (drop i xs) (n - i)) i c) ≡ insert (take n xs) i c
   moved_up i n c le within =
@@ -51,11 +43,8 @@ module _ {X : Type 0} (xs : List X) where
 
   -- the same of the memory that is in use, `len` capped at what there is
   module _ (len n : ℕ) (capped : n ≡ min len (length xs)) where
-    pub in_use : take n xs ≡ take len xs
-    in_use = let e : n ≡ min len (length xs) - 0 = omega arith in ap (λ k. take k xs) e ∙ taken_min len
-
-    pub used : length (take len xs) ≡ n
-    used = simp length-take (omega arith)
+    in_use : take n xs ≡ take len xs
+    in_use = grind (arith, common_steps)
 
     module _ (i : ℕ) (moved : List X) where
       pub after_insert : (c : X) → i ≤ n → n < length xs → moved ≡ paste xs (i + 1) (drop i xs) (n - i) → take (n + 1) (set moved i c) ≡ insert (take len xs) i c

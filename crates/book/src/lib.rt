@@ -3,8 +3,7 @@
 
 pub mod cue;
 pub mod edits;
-mod halving;
-mod memory;
+mod lent;
 pub mod pages;
 pub mod record;
 mod scan;

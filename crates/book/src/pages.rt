@@ -1,15 +1,15 @@
-// What a book and a log are made of: memory that the host lends, and how much of it is in use. A struct that holds a
-// `&mut` keeps no invariant here, so every method caps the count in use at the memory's own length.
+// A book and a log, each of memory that the host lends.
 use crate::cue::{Cue, Line};
+use crate::edits::MOST_CUES;
+use crate::lent::Lent;
+use crate::record::MOST_LINES;
 
 #[derive(Drop)]
 pub struct Book<'m, V> {
-    pub(crate) places: &'m mut [Cue<V>],
-    pub(crate) len: usize,
+    pub(crate) cues: Lent<'m, Cue<V>, MOST_CUES>,
 }
 
 #[derive(Drop)]
 pub struct Log<'m, L> {
-    pub(crate) lines: &'m mut [Line<L>],
-    pub(crate) len: usize,
+    pub(crate) lines: Lent<'m, Line<L>, MOST_LINES>,
 }

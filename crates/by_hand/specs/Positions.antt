@@ -37,7 +37,7 @@ tempo_rows = record { tick = 0; q = 500000 } ∷ (record { tick = 2; q = 600000 
 pub record Stage (m : TempoMap) : Type 0 where
   pub division : m.division ≡ 480
   pub rows : rows_of m ≡ tempo_rows
-  pub rate : m.sample_rate ≡ 44100
+  pub rate : m.rate.sample_rate ≡ 44100
   pub long : 3 ≤ m.last
 
 abbrev pub meter_rows : List MeterRow

@@ -5,7 +5,7 @@ use book::cue::{Cue, Line};
 use deck::state::Deck;
 use forms::format::Format;
 use forms::label::{Label, Labels};
-use operator::answer::{Answer, write_answer};
+use operator::answer::{Answer, Fault, write_answer};
 use operator::line::read_line;
 use session::carry::{Reply, carry_out};
 use std::io;
@@ -30,64 +30,50 @@ const LABELS: Labels = Labels {
     format: Format::Drop30,
 };
 
-fn say(rt: &HostRuntime, answer: Answer) -> io::Result<()> {
+type LabelDeck<'m> = Deck<'m, Ratio, Labels, Written<Ratio, Labels>>;
+
+fn say(rt: &HostRuntime, answer: Result<Answer, Fault>) -> io::Result<()> {
     let mut out = [0u8; 32];
     let mut w = TextWriter::new(&mut out);
-    match write_answer(&mut w, answer) {
-        Ok(()) => rt.stdout().write_all(w.text()),
-        // There is always room: this asks for the proof.
-        Err(_) => unreachable(),
-    }
+    // There is always room: this asks for the proof.
+    write_answer(&mut w, answer).unwrap();
+    rt.stdout().write_all(w.text())
 }
 
-fn list(rt: &HostRuntime, line: Line<Label>) -> io::Result<()> {
+fn list(rt: &HostRuntime, line: &Line<Label>) -> io::Result<()> {
     let mut out = [0u8; 64];
     let mut w = TextWriter::new(&mut out);
-    match write_line(&mut w, &LABELS, line.cue, line.sample, line.label) {
-        Ok(()) => rt.stdout().write_all(w.text()),
-        Err(_) => Err(io::Error::other("a log line could not be written")),
-    }
+    write_line(&mut w, &LABELS, line).map_err(|_| io::Error::other(
+        "a log line could not be written",
+    ))?;
+    rt.stdout().write_all(w.text())
 }
 
-fn answer(
-    rt: &HostRuntime,
-    deck: &mut Deck<'_, Ratio, Labels, Written<Ratio, Labels>>,
-    line: &[u8],
-) -> io::Result<()> {
+fn answer(rt: &HostRuntime, deck: &mut LabelDeck<'_>, line: &[u8]) -> io::Result<()> {
     match carry_out(deck, read_line(line)) {
-        Reply::Answered(answer) => say(rt, answer),
-        Reply::Listing => {
+        Ok(Reply::Answered(answer)) => say(rt, Ok(answer)),
+        Ok(Reply::Listing) => {
             for line in deck.lines() {
-                list(rt, *line)?;
+                list(rt, line)?;
             }
             Ok(())
         }
+        Err(fault) => say(rt, Err(fault)),
     }
 }
 
 // Each call is carried out as it is read.
-fn serve(
-    rt: &HostRuntime,
-    deck: &mut Deck<'_, Ratio, Labels, Written<Ratio, Labels>>,
-) -> io::Result<()> {
-    let mut input = BufReader::new(rt.alloc(), rt.stdin())?;
-    let mut line = Vec::new(rt.alloc());
-    for _ in 0..u64::MAX {
-        line.clear();
-        if input.read_until(b'\n', &mut line)? == 0 {
-            break;
-        }
-        answer(rt, deck, line.as_slice())?;
+fn serve(rt: &HostRuntime, deck: &mut LabelDeck<'_>) -> io::Result<()> {
+    let input = BufReader::new(rt.alloc(), rt.stdin())?;
+    for line in input.split(rt.alloc(), b'\n') {
+        answer(rt, deck, &line?)?;
     }
     Ok(())
 }
 
 fn main(rt: HostRuntime) -> io::Result<()> {
-    let frames = match Ratio::frames(FrameRate::Ntsc2997, SAMPLE_RATE, FRAMES) {
-        Ok(frames) => frames,
-        // The numbers are in range: this asks for the proof.
-        Err(_) => unreachable(),
-    };
+    // The numbers are in range: this asks for the proof.
+    let frames = Ratio::frames(FrameRate::Ntsc2997, SAMPLE_RATE, FRAMES).unwrap();
     let cue = Cue {
         position: 0,
         number: 0,
@@ -101,12 +87,6 @@ fn main(rt: HostRuntime) -> io::Result<()> {
     let mut places = vec![in rt.alloc(); cue; PLACES]?;
     let mut lines = vec![in rt.alloc(); line; LINES]?;
     let log = Written::new(frames, LABELS);
-    let mut deck = Deck::new(
-        frames,
-        LABELS,
-        log,
-        places.as_mut_slice(),
-        lines.as_mut_slice(),
-    );
+    let mut deck = Deck::new(frames, LABELS, log, &mut places, &mut lines);
     serve(&rt, &mut deck)
 }

@@ -2,16 +2,16 @@
 use Rattle.std.proofs.Common.{◌≡◌, ℕ, ◌<◌, ◌≤◌, Bool, true, false, cond, not, ◌||◌, ltb, leb, ◌⊎◌, List, [], ◌∷◌, length, is_some, Some, None, Ok, Err, filter, Option, sym, refl, ap, ◌∙◌, inl, inr, arith, ltb-false, ltb-true, le-ltb, lt-ltb, le-leb}
 use borrow.Author.Tests.{lt-leb}
 use Rattle.std.proofs.lemmas.Bool.{cond-true, cond-false}
-use Rattle.std.specs.Option.{option_map, option_to_list}
+use Rattle.std.specs.Option.{option_and_then, option_map, option_to_list}
 use Rattle.std.specs.Result.{result_ok}
 use Rattle.refusal.specs.declared.Refusal.{Refusal}
 use Rattle.refusal.specs.declared.Refusal.TheVariants.{NoPosition, NotWritten, CueOutOfRange, CueAlreadyIn, NoFreePlace, CueNotIn}
 use Rattle.timebase.specs.Meaning.{placed}
 use Rattle.book.specs.declared.cue.Cue.{Cue}
-use Rattle.book.specs.Cues.{has, numbered, struck}
+use Rattle.book.specs.Cues.{has, numbered}
 use Rattle.history.specs.declared.call.Call.{Call}
 use Rattle.history.specs.declared.call.Call.TheVariants.{Add, Strike}
-use Rattle.history.specs.World.{World, and_then, sample_of}
+use Rattle.history.specs.World.{World, sample_of}
 use Rattle.history.specs.Accepted.{stands, numbers_in, first, out_of_range, refusal}
 use Rattle.history.specs.Contents.{cue_of, book_of}
 use Rattle.history.proofs.Kept.{Kept}
@@ -38,23 +38,14 @@ unfolding any
 any_one f None = refl
 any_one f (Some x) = refl
 
--- striking a number that is not in changes nothing
-absent_step : {V : Type 0} (x : Cue V) (xs ys : List (Cue V)) (b h : Bool) → (b || h) ≡ false → (h ≡ false → ys ≡ xs) → cond b xs (x ∷ ys) ≡ x ∷ xs
-absent_step x xs ys true h e same = absurd (let y : ◌≡◌ {A = ℕ} 0 1 = cc in omega arith)
-absent_step x xs ys false h e same = ap (λ zs. x ∷ zs) (same e)
-
-pub struck_absent : {V : Type 0} (n : ℕ) (xs : List (Cue V)) → has n xs ≡ false → struck n xs ≡ xs
-struck_absent n [] e = refl
-struck_absent n (x ∷ xs) e = absent_step x xs (struck n xs) (numbered n x) (has n xs) e (struck_absent n xs)
-
 -- what the position of a written form says of its number
 pub at_ok : (o : Option ℕ) (len p : ℕ) → Ok p ≡ position_of o len → (o ≡ Some p) × (p < len)
-at_ok None len p e = absurd (let y : ◌≡◌ {A = ℕ} 0 1 = cc in omega arith)
+at_ok None len p e = absurd (cc)
 at_ok (Some q) len p e = by_test (ltb q len) refl e
   where
     by_test : (b : Bool) → ltb q len ≡ b → Ok p ≡ cond b (Ok q) (Err NoPosition) → (Some q ≡ Some p) × (p < len)
     by_test true t is = let same : q ≡ p = cc in (ap Some same, let l = ltb-true q len t in omega arith)
-    by_test false t is = absurd (let y : ◌≡◌ {A = ℕ} 0 1 = cc in omega arith)
+    by_test false t is = absurd (cc)
 
 -- why a written form has no position
 pub at_err : (o : Option ℕ) (len : ℕ) (why : Refusal) → Err why ≡ position_of o len
@@ -64,7 +55,7 @@ at_err (Some q) len why e = by_test (ltb q len) refl e
   where
     by_test : (b : Bool) → ltb q len ≡ b → Err why ≡ cond b (Ok q) (Err NoPosition)
         → ((Some q ≡ None) × (why ≡ NotWritten)) ⊎ ((p : ℕ) × (Some q ≡ Some p) × (len ≤ p) × (why ≡ NoPosition))
-    by_test true t is = absurd (let y : ◌≡◌ {A = ℕ} 0 1 = cc in omega arith)
+    by_test true t is = absurd (cc)
     by_test false t is = inr (q, refl, ltb-false q len t, cc)
 
 module _ {V W : Type 0} (w : World V W) (a : List (Call V)) (k : Kept V W w a) where
@@ -96,7 +87,7 @@ module _ {V W : Type 0} (w : World V W) (a : List (Call V)) (k : Kept V W w a) w
 
     module _ (p : ℕ) (is : w.number v ≡ Some p) where
       sampled : sample_of w v ≡ result_ok (placed w.cues p)
-      sampled = ap (λ o. and_then o (λ q. result_ok (placed w.cues q))) is
+      sampled = ap (λ o. option_and_then (λ q. result_ok (placed w.cues q)) o) is
 
       past_end : w.cues.len ≤ p → not (is_some (sample_of w v)) ≡ true
       past_end le = ap (λ o. not (is_some o)) (sampled ∙ ap result_ok (cond-false (ltb p w.cues.len) _ _ (le-ltb p w.cues.len le)))

@@ -1,3 +1,4 @@
+pub mod Edits
 pub mod Checks
 pub mod Orders
 pub mod Plays

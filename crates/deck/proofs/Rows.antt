@@ -1,28 +1,28 @@
--- Putting a row of the book to the log, one place after the other. Assumes nothing.
-use Rattle.std.proofs.Common.{◌≡◌, ℕ, ◌+◌, ◌-◌, ◌<◌, ◌≤◌, Bool, true, false, cond, ltb, leb, List, [], ◌∷◌, ◌++◌, map, length, get_or, Some, None, Option, sym, refl, ap, ◌∙◌, subst, append_assoc, arith}
+-- Putting cues to the log, one after the other. Assumes nothing.
+use Rattle.std.proofs.Common.{◌≡◌, ℕ, zero, suc, ◌+◌, ◌-◌, ◌<◌, ◌≤◌, Bool, true, false, cond, ltb, leb, List, [], ◌∷◌, ◌++◌, map, length, get_or, is_ok, Some, None, Ok, Err, Result, if◌then◌else◌, sym, refl, ap, ◌∙◌, subst, append_assoc, arith, lt-ltb}
+use Rattle.std.proofs.Math.Seq.{get_or-append_seam}
 use Rattle.std.proofs.lemmas.Bool.{ltb-false, leb-true, leb-false}
-use Rattle.std.proofs.lemmas.List.{append-nil, map-append, length-append, length-map}
-use Rattle.std.proofs.lemmas.List.Edits.{between_none, between_more, length-between}
-use Rattle.std.specs.List.{between}
-use Rattle.timebase.specs.Meaning.{Meaning}
-use Rattle.written.specs.Current.{current_at}
+use Rattle.std.proofs.lemmas.List.{append-nil, map-append, length-append, length-map, get_or_append_left}
+use Rattle.std.proofs.lemmas.List.Edits.{get_or-between, length-between}
+use Rattle.std.specs.List.{All, between}
+use Rattle.refusal.specs.declared.Refusal.{Refusal}
+use Rattle.refusal.specs.declared.Refusal.TheVariants.{NoFreeLines}
 use Rattle.book.specs.declared.cue.Cue.{Cue}
 use Rattle.book.specs.declared.cue.Line.{Line}
-use Rattle.book.specs.Held.{cues, room, lines, log_room}
+use Rattle.book.specs.declared.pages.Log.{Log}
+use Rattle.book.specs.Held.{lines, log_room}
 use Rattle.history.specs.World.{World}
 use Rattle.history.specs.Accepted.{end}
 use Rattle.history.specs.Contents.{line_of}
-use Rattle.deck.specs.declared.state.Deck.{Deck}
 use Rattle.deck.specs.Blocks.{block_end, line_for}
-use Rattle.deck.specs.Runs.{world_of, Keeps, Logs}
-use Rattle.deck.proofs.Ranges.{one_of}
+use Rattle.deck.specs.Runs.{Appends}
 
 some_step : {X : Type 0} (x y : X) (b : Bool) → Some x ≡ cond b (Some y) None → x ≡ y
 some_step x y true e = cc
-some_step x y false e = absurd (let z : ◌≡◌ {A = ℕ} 0 1 = cc in omega arith)
+some_step x y false e = absurd (cc)
 
 none_step : {X : Type 0} (y : X) (b : Bool) → None ≡ cond b (Some y) None → b ≡ false
-none_step y true e = absurd (let z : ◌≡◌ {A = ℕ} 0 1 = cc in omega arith)
+none_step y true e = absurd (cc)
 none_step y false e = refl
 
 -- the line that a cue has, and why one has none
@@ -38,76 +38,49 @@ end_some h n until e = by_test (leb (h + n) end) refl e
   where
     by_test : (b : Bool) → leb (h + n) end ≡ b → Some until ≡ cond b (Some (h + n)) None → (until ≡ h + n) × (h + n ≤ end)
     by_test true t is = (cc, leb-true (h + n) end t)
-    by_test false t is = absurd (let z : ◌≡◌ {A = ℕ} 0 1 = cc in omega arith)
+    by_test false t is = absurd (cc)
 
 pub end_none : (h n : ℕ) → None ≡ block_end h n → end < h + n
 end_none h n e = leb-false (h + n) end (none_step (h + n) (leb (h + n) end) e)
 
-pub one_between : {X : Type 0} (xs : List X) (i : ℕ) (d : X) → i < length xs → between i (i + 1) xs ≡ get_or xs i d ∷ []
-one_between xs i d h = between_more xs i i d (omega arith) h ∙ ap (λ ys. ys ++ (get_or xs i d ∷ [])) (between_none xs i)
+all_one : {X : Type 0} (P : X → Type 0) (x : X) → P x → All P (x ∷ [])
+all_one P x h zero d within = h
+all_one P x h (suc k) d within = absurd (omega arith)
 
-pub joined : {X : Type 0} (xs : List X) (from i : ℕ) → from ≤ i → i < length xs → between from (i + 1) xs ≡ between from i xs ++ between i (i + 1) xs
-joined xs from i le h =
-    let d = one_of xs (omega arith) in
-    between_more xs from i d le h ∙ ap (λ ys. between from i xs ++ ys) (sym (one_between xs i d h))
+module _ {V W : Type 0} (w : World V W) where
+  abbrev Inside : Cue V → Type 0
+  Inside x = x.position < w.cues.len
 
-module _ {C F L V W : Type 0} where
-  pub logs_none : (w : World V W) (i : ℕ) (d : Deck C F L V W) → Logs w i i d d
-  logs_none w i d = record {
-    books = refl;
-    heads = refl;
-    keeps = record { piles = refl; forms = refl; frames = refl; places = refl; lines = refl };
-    rows = λ le inside good fits. sym (ap (λ ys. lines d.log ++ map (line_of w) ys) (between_none (cues d.book) i) ∙ append-nil (lines d.log));
-  }
+  pub appends_none : (l : Log W) → Appends w [] l l
+  appends_none l = λ all fits. sym (append-nil (lines l))
 
-  pub keeps_trans : (d e f : Deck C F L V W) → Keeps d e → Keeps e f → Keeps d f
-  keeps_trans d e f a b = record {
-    piles = b.piles ∙ a.piles;
-    forms = b.forms ∙ a.forms;
-    frames = b.frames ∙ a.frames;
-    places = b.places ∙ a.places;
-    lines = b.lines ∙ a.lines;
-  }
+  -- one cue more
+  pub appends_more : (xs : List (Cue V)) (x : Cue V) (a b e : Log W) → log_room b ≡ log_room a → Appends w xs a b → Appends w (x ∷ []) b e → Appends w (xs ++ (x ∷ [])) a e
+  appends_more xs x a b e room front last = λ all fits.
+      let size = length-append xs (x ∷ []) in
+      let good : All Inside xs = λ k d h. subst Inside (get_or_append_left xs (x ∷ []) d k h) (all k d (omega arith)) in
+      let own : All Inside (x ∷ []) = all_one Inside x (subst Inside (get_or-append_seam xs x [] x) (all (length xs) x (omega arith))) in
+      let first = front good (omega arith) in
+      let long : length (lines b) ≡ length (lines a) + length xs = ap length first ∙ length-append (lines a) (map (line_of w) xs) ∙ ap (λ n. length (lines a) + n) (length-map xs (line_of w)) in
+      last own (omega arith) ∙ ap (λ ls. ls ++ (line_of w x ∷ [])) first
+      ∙ append_assoc (lines a) (map (line_of w) xs) (line_of w x ∷ []) ∙ ap (λ ls. lines a ++ ls) (sym (map-append (line_of w) xs (x ∷ [])))
 
-  -- one place more
-  pub logs_more : (w : World V W) (from i : ℕ) (d e f : Deck C F L V W) → from ≤ i → Logs w from i d e → Logs w i (i + 1) e f → Logs w from (i + 1) d f
-  logs_more w from i d e f le a b = record {
-    books = b.books ∙ a.books;
-    heads = b.heads ∙ a.heads;
-    keeps = keeps_trans d e f a.keeps b.keeps;
-    rows = λ up inside good fits.
-        let book : cues e.book ≡ cues d.book = ap cues a.books in
-        let xs = cues d.book in
-        let first : lines e.log ≡ lines d.log ++ map (line_of w) (between from i xs) = a.rows le (omega arith) (λ k x l m. good k x l (omega arith)) (omega arith) in
-        let long : length (lines e.log) ≡ length (lines d.log) + (i - from)
-        = ap length first ∙ length-append _ _ ∙ ap (λ n. length (lines d.log) + n) (length-map (between from i xs) (line_of w) ∙ length-between xs from i (omega arith)) in
-        let second : lines f.log ≡ lines e.log ++ map (line_of w) (between i (i + 1) (cues e.book))
-        = b.rows (omega arith) (subst (λ ys. i + 1 ≤ length ys) (sym book) inside)
-        (λ k x l m. subst (λ ys. (get_or ys k x).position < w.cues.len) (sym book) (good k x (omega arith) m)) (omega arith) in
-        let grown : map (line_of w) (between from i xs) ++ map (line_of w) (between i (i + 1) (cues e.book)) ≡ map (line_of w) (between from (i + 1) xs)
-        = ap (λ ys. map (line_of w) (between from i xs) ++ map (line_of w) (between i (i + 1) ys)) book
-        ∙ sym (map-append (line_of w) (between from i xs) (between i (i + 1) xs)) ∙ ap (map (line_of w)) (sym (joined xs from i le (omega arith))) in
-        second ∙ ap (λ ys. ys ++ map (line_of w) (between i (i + 1) (cues e.book))) first
-        ∙ append_assoc (lines d.log) (map (line_of w) (between from i xs)) (map (line_of w) (between i (i + 1) (cues e.book)))
-        ∙ ap (λ ys. lines d.log ++ ys) grown;
-  }
+  -- one cue more, by what the log answers
+  pub appends_line : (x : Cue V) (line : Line W) (a e : Log W) (r : Result (Unit {0}) Refusal) → Some line ≡ line_for w x
+      → r ≡ (if ltb (length (lines a)) (log_room a) then Ok tt else Err NoFreeLines) → lines e ≡ (if is_ok r then lines a ++ (line ∷ []) else lines a) → Appends w (x ∷ []) a e
+  appends_line x line a e r is told after = λ all fits.
+      let free : r ≡ Ok tt = told ∙ ap (λ b. if b then Ok tt else Err NoFreeLines) (lt-ltb _ _ (omega arith)) in
+      after ∙ ap (λ s. if is_ok s then lines a ++ (line ∷ []) else lines a) free ∙ ap (λ l. lines a ++ (l ∷ [])) (line_some w x line is)
 
-  -- two decks with the same piles, form and memory read calls alike
-  pub same_world : (pile : C → Meaning) (number : F → V → Option ℕ) (frames : L → Meaning) (form : L → ℕ → Option W) (d e : Deck C F L V W) → Keeps d e
-      → world_of pile number frames form e ≡ world_of pile number frames form d
-  same_world pile number frames form d e k =
-      ap (λ x. record { cues = pile x; number = number e.form; label = current_at (frames e.frames) (form e.frames); places = room e.book; lines = log_room e.log }) k.piles
-      ∙ ap (λ x. record { cues = pile d.pile; number = number x; label = current_at (frames e.frames) (form e.frames); places = room e.book; lines = log_room e.log }) k.forms
-      ∙ ap (λ x. record { cues = pile d.pile; number = number d.form; label = current_at (frames x) (form x); places = room e.book; lines = log_room e.log }) k.frames
-      ∙ ap (λ n. record { cues = pile d.pile; number = number d.form; label = current_at (frames d.frames) (form d.frames); places = n; lines = log_room e.log }) k.places
-      ∙ ap (λ n. record { cues = pile d.pile; number = number d.form; label = current_at (frames d.frames) (form d.frames); places = room d.book; lines = n }) k.lines
+  -- a cue past the pile's end
+  pub appends_past : (x : Cue V) (a : Log W) → None ≡ line_for w x → Appends w (x ∷ []) a a
+  appends_past x a none = λ all fits. absurd (let past = line_none w x none in let within = all 0 x (omega arith) in omega arith)
 
-  pub logs_all : (w : World V W) (from to i : ℕ) (d e : Deck C F L V W) → (from ≤ to → i ≤ to) → to ≤ i → Logs w from i d e → Logs w from to d e
-  logs_all w from to i d e below above a = record {
-    books = a.books;
-    heads = a.heads;
-    keeps = a.keeps;
-    rows = λ up. let is : i ≡ to = let b = below up in omega arith in
-        subst (λ k. from ≤ k → k ≤ length (cues d.book) → ((j : ℕ) (x : Cue V) → from ≤ j → j < k → (get_or (cues d.book) j x).position < w.cues.len)
-        → length (lines d.log) + (k - from) ≤ w.lines → lines e.log ≡ lines d.log ++ map (line_of w) (between from k (cues d.book))) is a.rows up;
-  }
+  -- the cues of a row of the book
+  pub appends_row : (cs row : List (Cue V)) (from to : ℕ) (a e : Log W) → row ≡ between from to cs → Appends w row a e → from ≤ to → to ≤ length cs
+      → ((k : ℕ) (d : Cue V) → from ≤ k → k < to → Inside (get_or cs k d)) → length (lines a) + (to - from) ≤ log_room a
+      → lines e ≡ lines a ++ map (line_of w) (between from to cs)
+  appends_row cs row from to a e is put up inside good fits =
+      let long = length-between cs from to inside in
+      let all : All Inside row = subst (All Inside) (sym is) (λ k d h. subst Inside (sym (get_or-between cs from to k d (omega arith))) (good (from + k) d (omega arith) (omega arith))) in
+      put all (omega (arith, long, ap length is)) ∙ ap (λ ys. lines a ++ map (line_of w) ys) is

@@ -3,13 +3,13 @@
 use Rattle.std.proofs.Common.{◌≡◌, ℕ, zero, suc, ◌+◌, ◌<◌, ◌≤◌, Bool, true, false, cond, ltb, leb, List, [], ◌∷◌, length, get_or, Some, None, filter, Option, sym, refl, ap, ◌∙◌, subst, inl, inr, arith}
 use Rattle.std.proofs.ByRecursion.{all_kept_by, All-from_get_or, All-get_or}
 use Rattle.std.proofs.lemmas.Bool.{and_parts, and_from, and_left, le-leb, lt-leb, lt-ltb, leb-true, ltb-true, eq-eqb, both_ways, cases_lt, cond-true}
-use Rattle.std.specs.Option.{option_map, option_to_list}
+use Rattle.std.specs.Option.{MatchOption, IsSomeAnd, option_and_then, option_map, option_to_list}
 use Rattle.std.specs.List.{AllByRecursion}
 use Rattle.timebase.specs.Meaning.{Sound, Least}
 use Rattle.book.specs.declared.cue.Cue.{Cue}
 use Rattle.book.specs.Cues.{numbered, Splits}
 use Rattle.history.specs.declared.call.Call.{Call}
-use Rattle.history.specs.World.{World, and_then, sample_of}
+use Rattle.history.specs.World.{World, sample_of}
 use Rattle.history.specs.Accepted.{stands, stands_on}
 use Rattle.history.specs.Contents.{cue_of, book_of, in_play}
 use Rattle.history.proofs.Kept.{Good, Kept}
@@ -53,19 +53,19 @@ module _ {V W : Type 0} (w : World V W) (a : List (Call V)) (k : Kept V W w a) (
       let own : AllByRecursion (λ y. stands c a ≡ Some y.at) (filter (numbered c) (book_of w a))
       = subst (AllByRecursion (λ y. stands c a ≡ Some y.at)) (sym (k.only c)) (own_cue c (stands c a) refl) in
       let is : stands c a ≡ Some x.at = at_kept (numbered c) (λ y. stands c a ≡ Some y.at) (book_of w a) i d inside (eq-eqb c c refl) own in
-      ap (λ o. and_then o (sample_of w)) is ∙ sample_good w x good ∙ ap Some (only_sample w s x crossed)
+      ap (λ o. option_and_then (sample_of w) o) is ∙ sample_good w x good ∙ ap Some (only_sample w s x crossed)
 
   -- where no cue of the book is on the sample, no number stands there
   pub none_on : AllByRecursion (λ x. in_play w s 1 x ≡ false) (book_of w a) → (c : ℕ) → stands_on w c a ≡ Some s → ⊥
   none_on none c on = by_value (stands c a) refl
     where
       by_value : (o : Option V) → stands c a ≡ o → ⊥
-      by_value None is = let z : None ≡ Some s = sym (ap (λ o. and_then o (sample_of w)) is) ∙ on in let y : ◌≡◌ {A = ℕ} 0 1 = cc in omega arith
+      by_value None is = let z : None ≡ Some s = sym (ap (λ o. option_and_then (sample_of w) o) is) ∙ on in cc
       by_value (Some v) is =
           let good : Good V W w (cue_of w c v) = found w a k c v is in
           let one : filter (numbered c) (book_of w a) ≡ cue_of w c v ∷ [] = k.only c ∙ ap (λ o. option_to_list (option_map (cue_of w c) o)) is in
           let off : in_play w s 1 (cue_of w c v) ≡ false = (subst (AllByRecursion (λ x. in_play w s 1 x ≡ false)) one (all_kept_by (numbered c) (λ x. in_play w s 1 x ≡ false) (book_of w a) none)).0 in
-          let at : Some (w.cues.rule (cue_of w c v).position) ≡ Some s = sym (sample_good w (cue_of w c v) good) ∙ sym (ap (λ o. and_then o (sample_of w)) is) ∙ on in
+          let at : Some (w.cues.rule (cue_of w c v).position) ≡ Some s = sym (sample_good w (cue_of w c v) good) ∙ sym (ap (λ o. option_and_then (sample_of w) o) is) ∙ on in
           both_ways (in_play w s 1 (cue_of w c v)) off (its_sample w s (cue_of w c v) (cc))
 
   -- the row of the sample, from what the halvings answer
@@ -99,3 +99,11 @@ module _ {V W : Type 0} (w : World V W) (a : List (Call V)) (k : Kept V W w a) (
         (let within = sound.within x.position good.0.inside in and_left (leb s (w.cues.rule x.position)) _ (lt-leb _ _ (omega arith))),
         all_off xs good.1,
       )
+
+-- the number of the cue at a place of the book
+pub number_found : {V : Type 0} (cs : List (Cue V)) (i : ℕ) (o : Option (Cue V)) (r : Option ℕ) (P : Cue V → ℕ → Type 0)
+    → MatchOption o (length cs ≤ i) (λ x. (i < length cs) × ((d : Cue V) → x ≡ get_or cs i d)) → MatchOption o (r ≡ None) (λ x. IsSomeAnd r (P x))
+    → ((x : Cue V) (n : ℕ) → P x n → n ≡ x.number) → i < length cs → (d : Cue V) → r ≡ Some (get_or cs i d).number
+number_found cs i None r P at none same within d = absurd (omega arith)
+number_found cs i (Some x) None P at some same within d = absurd some
+number_found cs i (Some x) (Some n) P at some same within d = ap Some (same x n some ∙ ap (λ y. y.number) (at.1 d))

@@ -1,5 +1,5 @@
 -- What a deck owes at a refusal, and at an accepted call. Assumes nothing.
-use Rattle.std.proofs.Common.{◌≡◌, ℕ, List, ◌∷◌, Some, None, Ok, Err, Result, sym, refl, ap, ◌∙◌}
+use Rattle.std.proofs.Common.{◌≡◌, ℕ, List, ◌∷◌, Some, None, Ok, Err, Result, sym, refl, ap, ◌∙◌, subst}
 use Rattle.refusal.specs.declared.Refusal.{Refusal}
 use Rattle.book.specs.Held.{cues, lines}
 use Rattle.history.specs.declared.call.Call.{Call}
@@ -31,6 +31,11 @@ module _ {C F L V W R : Type 0} (w : World V W) (d : Deck C F L V W) (call : Cal
 
   pub refused : (why : Refusal) → ((calls : List (Call V)) → HasHad w calls d → refusal w (accepted w calls) call ≡ Some why) → Taken R w d d call told (told (Err why))
   refused why checks = refused_by d why refl refl refl keeps_all checks
+
+  -- the same of what a `?` answers
+  pub refused_as : (why : Refusal) (r : Result R Refusal) → r ≡ told (Err why) → ((calls : List (Call V)) → HasHad w calls d → refusal w (accepted w calls) call ≡ Some why)
+      → Taken R w d d call told r
+  refused_as why r is checks = subst (Taken R w d d call told) (sym is) (refused why checks)
 
   -- what is known of an accepted call and of the deck that it leaves, given the calls before it
   pub record Accepts (e : Deck C F L V W) (k : ℕ) (a : List (Call V)) : Type 0 where

@@ -2,12 +2,14 @@
 --   world_of  what a deck's calls are read with: its piles, its form and its memory
 --   HasHad    the deck is as these calls leave it
 --   Keeps     piles, form and memory stay as they were
+--   Appends   lines for cues put to a log
 --   Logs      a row of the book put to the log
 --   Taken     a call takes a deck that has had some calls to one that has had this call too, and answers by them
 -- Assumes nothing.
-use Rattle.std.specs.Prelude.{◌≡◌, ℕ, ◌+◌, ◌-◌, ◌<◌, ◌≤◌, List, ◌∷◌, ◌++◌, map, length, Ok, Err, Option, Result, slice_index_or}
+use Rattle.std.specs.Prelude.{All, ◌≡◌, ℕ, ◌+◌, ◌-◌, ◌<◌, ◌≤◌, List, ◌∷◌, ◌++◌, map, length, Ok, Err, Option, Result, slice_index_or}
 use Rattle.std.specs.List.{between}
 use Rattle.book.specs.declared.cue.Cue.{Cue}
+use Rattle.book.specs.declared.pages.Log.{Log}
 use Rattle.refusal.specs.declared.Refusal.{Refusal}
 use Rattle.timebase.specs.Meaning.{Meaning}
 use Rattle.written.specs.Current.{current_at}
@@ -27,6 +29,11 @@ module _ {C F L V W : Type 0} (pile : C → Meaning) (number : F → V → Optio
     places = room d.book;
     lines = log_room d.log;
   }
+
+-- lines for cues put to a log, if each is below the pile's end and the log has room for all
+abbrev pub Appends : {V W : Type 0} → World V W → List (Cue V) → Log W → Log W → Type 0
+Appends w cs before after =
+    All (λ x. x.position < w.cues.len) cs → length (lines before) + length cs ≤ log_room before → lines after ≡ lines before ++ map (line_of w) cs
 
 module _ {C F L V W : Type 0} where
   abbrev pub HasHad : World V W → List (Call V) → Deck C F L V W → Type 0

@@ -3,9 +3,10 @@ ghost use Rattle.std.specs.Prelude.{◌≡◌, not};
 ghost use Rattle.history.specs.declared.call.Call.TheVariants.{Add, Strike, Seek};
 ghost use Rattle.history.specs.Accepted.{out_of_range};
 ghost use Rattle.deck.specs.Blocks.{position_of};
-ghost use Rattle.deck.specs.Runs.{world_of, Taken, done};
+ghost use Rattle.deck.specs.Runs.{Taken, done};
 
 use crate::state::Deck;
+use crate::world::HasWorld;
 use book::cue::Cue;
 use forms::form::WrittenForm;
 use refusal::Refusal;
@@ -16,24 +17,26 @@ use written::base::WrittenTimebase;
 fn in_range(number: u64) -> bool
     ensures { out_of_range number ≡ not result }
 {
-    1 <= number && number <= 999_999
+    (1..=999_999).contains(&number)
 }
 
 impl<'m, C: Timebase, F: WrittenForm, L: WrittenTimebase> Deck<'m, C, F, L> {
     // The position of a written form, refused where it is not valid, and then where the pile is too short.
     fn position_of(&self, at: F::Value) -> Result<u64, Refusal>
-        ensures { result ≡ position_of (F.WrittenForm.number self.now.form at) (C.Timebase.meaning self.now.pile).len }
+        ensures { result ≡ position_of (F.number self.now.form at) (C.meaning self.now.pile).len }
     {
-        match self.form.read(at) {
-            Ok(position) if position < self.pile.len() => Ok(position),
-            Ok(_) => Err(Refusal::NoPosition),
-            Err(why) => Err(why),
+        let position = self.form.read(at)?;
+        // A plain `if`: `filter` would take an Option made of the position, and `ok_or` after it.
+        if position < self.pile.len() {
+            Ok(position)
+        } else {
+            Err(Refusal::NoPosition)
         }
     }
 
     // A cue put into the book.
     pub fn add(&mut self, number: u64, at: F::Value) -> Result<(), Refusal>
-        ensures { Taken (Unit {0}) (world_of C.Timebase.meaning F.WrittenForm.number L.Timebase.meaning L.WrittenTimebase.form self.old) self.old self.new (Add number at) done result }
+        ensures { Taken (Unit {0}) (⟦<Self as HasWorld>⟧.world self.old) self.old self.new (Add number at) done result }
     {
         if !in_range(number) {
             return Err(Refusal::CueOutOfRange);
@@ -41,39 +44,27 @@ impl<'m, C: Timebase, F: WrittenForm, L: WrittenTimebase> Deck<'m, C, F, L> {
         if self.book.has(number) {
             return Err(Refusal::CueAlreadyIn);
         }
-        let position = match self.position_of(at) {
-            Ok(position) => position,
-            Err(why) => return Err(why),
-        };
-        let cue = Cue {
+        let position = self.position_of(at)?;
+        self.book.enter(Cue {
             position,
             number,
             at,
-        };
-        if self.book.enter(cue) {
-            Ok(())
-        } else {
-            Err(Refusal::NoFreePlace)
-        }
+        })
     }
 
     // A cue taken out of the book by its number.
     pub fn strike(&mut self, number: u64) -> Result<(), Refusal>
-        ensures { Taken (Unit {0}) (world_of C.Timebase.meaning F.WrittenForm.number L.Timebase.meaning L.WrittenTimebase.form self.old) self.old self.new (Strike number) done result }
+        ensures { Taken (Unit {0}) (⟦<Self as HasWorld>⟧.world self.old) self.old self.new (Strike number) done result }
     {
         if !in_range(number) {
             return Err(Refusal::CueOutOfRange);
         }
-        if self.book.strike(number) {
-            Ok(())
-        } else {
-            Err(Refusal::CueNotIn)
-        }
+        self.book.strike(number)
     }
 
     // The head set to a sample, or to the one after the last.
     pub fn seek(&mut self, head: u64) -> Result<(), Refusal>
-        ensures { Taken (Unit {0}) (world_of C.Timebase.meaning F.WrittenForm.number L.Timebase.meaning L.WrittenTimebase.form self.old) self.old self.new (Seek head) done result }
+        ensures { Taken (Unit {0}) (⟦<Self as HasWorld>⟧.world self.old) self.old self.new (Seek head) done result }
     {
         if head > LAST_SAMPLE + 1 {
             return Err(Refusal::HeadPastEnd);

@@ -4,10 +4,11 @@ ghost use Rattle.timebase.specs.Meaning.{placed, Least, Agree};
 ghost use Rattle.layers.specs.Piles.{PlaceAndLocateAgree};
 ghost use Rattle.book.specs.Held.{cues, room, lines as written, log_room};
 ghost use Rattle.history.specs.declared.call.Call.{Call};
-ghost use Rattle.deck.specs.Runs.{world_of, HasHad};
+ghost use Rattle.deck.specs.Runs.{HasHad};
 ghost use Rattle.deck.specs.Order.{InWrittenOrder};
 
 use crate::state::Deck;
+use crate::world::HasWorld;
 use book::cue::{Cue, Line};
 use book::pages::{Book, Log};
 use forms::form::WrittenForm;
@@ -25,7 +26,7 @@ impl<'m, C: Timebase, F: WrittenForm, L: WrittenTimebase> Deck<'m, C, F, L> {
         places: &'m mut [Cue<F::Value>],
         lines: &'m mut [Line<L::Shown>],
     ) -> Self
-        ensures starts { HasHad (world_of C.Timebase.meaning F.WrittenForm.number L.Timebase.meaning L.WrittenTimebase.form result) [] result }
+        ensures starts { HasHad (⟦<Self as HasWorld>⟧.world result) [] result }
         ensures pile { result.pile ≡ pile }
         ensures form { result.form ≡ form }
         ensures frames { result.frames ≡ frames }
@@ -58,7 +59,7 @@ impl<'m, C: Timebase, F: WrittenForm, L: WrittenTimebase> Deck<'m, C, F, L> {
     // The cues of the book: by written form, part by part from the left, and then by number.
     pub fn cues(&self) -> &[Cue<F::Value>]
         ensures value { result.now ≡ cues self.now.book }
-        ensures ordered { (calls : List (Call F.Value)) → HasHad (world_of C.Timebase.meaning F.WrittenForm.number L.Timebase.meaning L.WrittenTimebase.form self.now) calls self.now → InWrittenOrder (F.WrittenForm.parts self.now.form) result.now }
+        ensures ordered { (calls : List (Call F.Value)) → HasHad (⟦<Self as HasWorld>⟧.world self.now) calls self.now → InWrittenOrder (F.parts self.now.form) result.now }
     {
         self.book.held()
     }
@@ -72,15 +73,15 @@ impl<'m, C: Timebase, F: WrittenForm, L: WrittenTimebase> Deck<'m, C, F, L> {
 
     // The sample of a position of the cue pile.
     pub fn place(&self, p: u64) -> Result<u64, Refusal>
-        ensures { result ≡ placed (C.Timebase.meaning self.now.pile) p }
+        ensures { result ≡ placed (C.meaning self.now.pile) p }
     {
         self.pile.place(p)
     }
 
     // The least position of the cue pile whose sample is at least `s`, or its length.
     pub fn locate(&self, s: u64) -> u64
-        ensures least { Least (C.Timebase.meaning self.now.pile) s result }
-        ensures agrees { Agree (C.Timebase.meaning self.now.pile) s result }
+        ensures least { Least (C.meaning self.now.pile) s result }
+        ensures agrees { Agree (C.meaning self.now.pile) s result }
         ensures law { PlaceAndLocateAgree }
     {
         locate_on(&self.pile, s)

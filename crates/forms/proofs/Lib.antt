@@ -1,3 +1,2 @@
-pub mod Prints
 pub mod Spelling
 pub mod Telling

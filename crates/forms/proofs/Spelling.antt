@@ -2,7 +2,7 @@
 --   Figured  the places of a text hold a label's figures
 --   Spelt    the places of a text hold a label's figures and the separators
 -- Assumes nothing.
-use Rattle.std.proofs.Common.{◌≡◌, ℕ, ◌+◌, ◌-◌, ◌*◌, ◌<◌, Bool, true, false, cond, ◌&&◌, eqb, List, length, get_or, Ok, Err, sym, refl, subst, arith}
+use Rattle.std.proofs.Common.{◌≡◌, ℕ, ◌+◌, ◌-◌, ◌*◌, ◌<◌, Bool, true, false, if◌then◌else◌, ◌&&◌, List, length, get_or, Ok, Err, sym, refl, subst, arith}
 use Rattle.std.specs.Str.{bytes_eq}
 use Rattle.std.proofs.lemmas.Slice.Eq.{HasBytesAt, bytes_eq-Decides, text_from_reads}
 use Rattle.std.proofs.lemmas.Bool.Decides.{nat_tests}
@@ -37,9 +37,6 @@ rate_below Drop30 = omega arith
 valid_range : (f : Format) (l : Label) → valid f l ≡ true → InRange (values f).rate l
 valid_range f l e = ranges (values f).rate l (both_from (in_range (values f).rate l) ((values f).drops && left_out l) e).0
 
-same_byte : (n : ℕ) → eqb n n ≡ true
-same_byte n = grind (arith, nat_tests)
-
 spelt_own : (f : Format) (l : Label) → valid f l ≡ true → Spelt f (label_text f l) l
 spelt_own f l e =
     let h = valid_range f l e in
@@ -50,7 +47,7 @@ spelt_own f l e =
       seconds_are = record { bound = omega arith; tens_is = refl; ones_is = refl };
       frames_are = record { bound = omega arith; tens_is = refl; ones_is = refl };
     } in
-    record { has = e; long = refl; parts = parts; marks = same_byte (values f).separator }
+    record { has = e; long = refl; parts = parts; marks = grind (arith, nat_tests) }
 
 pub spelt_from_writes : (f : Format) (text : List ℕ) (l : Label) → Writes f text l → Spelt f text l
 spelt_from_writes f text l w = subst (λ t. Spelt f t l) (sym w.is) (spelt_own f l w.has)
@@ -84,10 +81,10 @@ pub parsed_own : (f : Format) (text : List ℕ) (l : Label) → Writes f text l 
 parsed_own f text l w =
     let e = label_is text l (spelt_from_writes f text l w).parts in
     let same : bytes_eq text (label_text f l) ≡ true = (bytes_eq-Decides text (label_text f l)).1 w.is in
-    let at-l : cond (valid f l && bytes_eq text (label_text f l)) (Ok l) (Err NotWritten) ≡ Ok l = rw (w.has, same) refl in
-    subst (λ g. cond (valid f g && bytes_eq text (label_text f g)) (Ok g) (Err NotWritten) ≡ Ok l) (sym e) at-l
+    let at-l : (if valid f l && bytes_eq text (label_text f l) then Ok l else Err NotWritten) ≡ Ok l = rw (w.has, same) refl in
+    subst (λ g. (if valid f g && bytes_eq text (label_text f g) then Ok g else Err NotWritten) ≡ Ok l) (sym e) at-l
 
-answer_from : (a b : Bool) (g l : Label) → cond (a && b) (Ok g) (Err NotWritten) ≡ Ok l → (a ≡ true) × (b ≡ true) × (g ≡ l)
+answer_from : (a b : Bool) (g l : Label) → (if a && b then Ok g else Err NotWritten) ≡ Ok l → (a ≡ true) × (b ≡ true) × (g ≡ l)
 answer_from true true g l e = (refl, refl, (cc))
 answer_from true false g l e = let z : ◌≡◌ {A = ℕ} 0 1 = cc in absurd (omega arith)
 answer_from false b g l e = let z : ◌≡◌ {A = ℕ} 0 1 = cc in absurd (omega arith)
@@ -98,7 +95,7 @@ parsed_only f text l e =
     let h = answer_from (valid f g) (bytes_eq text (label_text f g)) g l e in
     subst (λ k. Writes f text k) h.2 (record { has = h.0; is = (bytes_eq-Decides text (label_text f g)).0 h.1 })
 
-none_from : (a b : Bool) (g : Label) → (a ≡ true → b ≡ true → ⊥) → cond (a && b) (Ok g) (Err NotWritten) ≡ Err NotWritten
+none_from : (a b : Bool) (g : Label) → (a ≡ true → b ≡ true → ⊥) → (if a && b then Ok g else Err NotWritten) ≡ Err NotWritten
 none_from true true g no_one = absurd (no_one refl refl)
 none_from true false g no_one = refl
 none_from false b g no_one = refl

@@ -1,12 +1,9 @@
 -- Clock arithmetic: mixed-radix digits, and the labels that dropping leaves out.
 -- Assumes nothing.
-use Rattle.std.specs.Prelude.{◌≡◌, ℕ, ◌+◌, ◌-◌, ◌*◌, ◌/◌, ◌%◌, ◌<◌, ◌≤◌, ◌⊎◌, refl}
+use Rattle.std.specs.Prelude.{◌≡◌, ℕ, ◌+◌, ◌-◌, ◌*◌, ◌/◌, ◌%◌, ◌<◌, ◌≤◌, refl}
 use Rattle.std.proofs.Common.{⊎_elim, mul_comm, arith}
+use Rattle.std.proofs.Math.Nat.{eq-zero-or-pos}
 use Rattle.std.proofs.lemmas.Nat.{div_below}
-use Rattle.std.proofs.lemmas.Bool.Decides.{nat_tests}
-
-none_or_some : (k : ℕ) → (k ≡ 0) ⊎ (0 < k)
-none_or_some k = grind (arith, nat_tests)
 
 -- seconds of a day as hours, minutes and seconds
 pub clock_back : (z : ℕ) → 60 * (60 * (z / 3600) + z / 60 % 60) + z % 60 ≡ z
@@ -26,7 +23,7 @@ minute_at k f f< gap =
     ⊎_elim
     (λ none. omega arith)
     (λ some. let two : 2 ≤ f = gap some in omega arith)
-    (none_or_some k)
+    (eq-zero-or-pos k)
 
 pub hour_below : (c n : ℕ) → 0 < c → n < c * 86400 → n / c / 3600 < 24
 hour_below c n pos below =

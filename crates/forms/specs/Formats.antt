@@ -1,17 +1,11 @@
 -- The four label formats, each with its numbers.
---   FormatValues  what a format decides: frames a second, whether labels are dropped, labels a day, and the
---                 character between seconds and frames
---   values        the numbers of each format
+--   values  what a format decides: frames a second, whether labels are dropped, labels a day, and the character between
+--           seconds and frames
 -- Assumes nothing.
-use Rattle.std.specs.Prelude.{ℕ, Bool, true, false}
+use Rattle.std.specs.Prelude.{true, false}
 use Rattle.forms.specs.declared.format.Format.{Format}
+use Rattle.forms.specs.declared.format.FormatValues.{FormatValues}
 use Rattle.forms.specs.declared.format.Format.TheVariants.{Film24, Pal25, Full30, Drop30}
-
-pub record FormatValues : Type 0 where
-  pub rate : ℕ
-  pub drops : Bool
-  pub day : ℕ
-  pub separator : ℕ
 
 -- 58 is a colon, 59 a semicolon
 abbrev pub values : Format → FormatValues

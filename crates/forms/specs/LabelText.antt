@@ -10,17 +10,16 @@
 --   kept           a label that a text spells, refused where the format has not the label
 --   Writes         a text is that of a label that the format has
 --   Parses         an answer is right: a label's own text gives that label, and no other text gives a label
+--   Told           an answer is what reading a text answers, and right
 --   label_written  the label that a text writes, or no_label
 --   text_number    the number of the label that a text writes, where it writes one
---   print_answer   what printing a label into n bytes answers
---   print_after    what the bytes then hold
 -- Assumes nothing.
-use Rattle.std.specs.Prelude.{◌≡◌, ℕ, ◌+◌, ◌-◌, ◌*◌, ◌/◌, ◌%◌, ◌<◌, Bool, true, cond, ◌&&◌, List, [], ◌∷◌, ◌++◌, length, drop, Some, None, Ok, Err, Option, Result, ◌==◌, nat_le, nat_lt, slice_index}
+use Rattle.std.specs.Prelude.{◌≡◌, ℕ, ◌+◌, ◌-◌, ◌*◌, ◌/◌, ◌%◌, ◌<◌, Bool, true, if◌then◌else◌, ◌&&◌, List, [], ◌∷◌, Some, None, Ok, Err, Option, Result, ◌==◌, slice_index}
 use Rattle.std.specs.Option.{unwrap_or}
 use Rattle.std.specs.Result.{result_ok}
 use Rattle.std.specs.Str.{bytes_eq}
 use Rattle.refusal.specs.declared.Refusal.{Refusal}
-use Rattle.refusal.specs.declared.Refusal.TheVariants.{ShortBuffer, NotWritten}
+use Rattle.refusal.specs.declared.Refusal.TheVariants.{NotWritten}
 use Rattle.forms.specs.Formats.{values}
 use Rattle.forms.specs.Labels.{valid, label_number, no_label}
 use Rattle.forms.specs.declared.format.Format.{Format}
@@ -59,10 +58,11 @@ figures_label text = record {
 
 abbrev pub parsed : Format → List ℕ → Result Label Refusal
 parsed f text =
-    cond (valid f (figures_label text) && bytes_eq text (label_text f (figures_label text))) (Ok (figures_label text)) (Err NotWritten)
+    let l = figures_label text in
+    if valid f l && bytes_eq text (label_text f l) then Ok l else Err NotWritten
 
 abbrev pub kept : Format → Option Label → Result Label Refusal
-kept f (Some l) = cond (valid f l) (Ok l) (Err NotWritten)
+kept f (Some l) = if valid f l then Ok l else Err NotWritten
 kept f None = Err NotWritten
 
 pub record Writes (f : Format) (text : List ℕ) (l : Label) : Type 0 where
@@ -73,14 +73,12 @@ pub record Parses (f : Format) (text : List ℕ) (r : Result Label Refusal) : Ty
   pub own : (l : Label) → Writes f text l → r ≡ Ok l
   pub only : (l : Label) → r ≡ Ok l → Writes f text l
 
+pub record Told (f : Format) (text : List ℕ) (r : Result Label Refusal) : Type 0 where
+  pub value : r ≡ parsed f text
+  pub cases : Parses f text r
+
 abbrev pub label_written : Format → List ℕ → Label
 label_written f text = unwrap_or (result_ok (parsed f text)) no_label
 
 abbrev pub text_number : Format → List ℕ → Option ℕ
 text_number f text = elim (parsed f text) [ Ok l ↦ label_number f l | Err e ↦ None ]
-
-abbrev pub print_answer : Format → Label → ℕ → Result ℕ Refusal
-print_answer f l n = cond (valid f l) (cond (nat_lt n 11) (Err ShortBuffer) (Ok 11)) (Err NotWritten)
-
-abbrev pub print_after : Format → Label → List ℕ → List ℕ
-print_after f l out = cond (valid f l && nat_le 11 (length out)) (label_text f l ++ drop 11 out) out

@@ -14,7 +14,7 @@
 --   no_label        a label that no format has
 --   label_parts     a label's parts, the weightiest first
 -- Assumes nothing.
-use Rattle.std.specs.Prelude.{ℕ, ◌+◌, ◌-◌, ◌*◌, ◌/◌, ◌%◌, Bool, cond, not, ◌&&◌, List, [], ◌∷◌, Some, None, Option, ◌==◌, nat_lt}
+use Rattle.std.specs.Prelude.{ℕ, ◌+◌, ◌-◌, ◌*◌, ◌/◌, ◌%◌, Bool, if◌then◌else◌, not, ◌&&◌, List, [], ◌∷◌, Some, None, Option, ◌==◌, nat_lt}
 use Rattle.forms.specs.Formats.{values}
 use Rattle.forms.specs.declared.format.Format.{Format}
 use Rattle.forms.specs.declared.label.Label.{Label}
@@ -38,13 +38,13 @@ abbrev pub valid : Format → Label → Bool
 valid f l = in_range (values f).rate l && not ((values f).drops && left_out l)
 
 abbrev pub dropped_before : Format → ℕ → ℕ
-dropped_before f t = cond (values f).drops (2 * (t - t / 10)) 0
+dropped_before f t = if (values f).drops then 2 * (t - t / 10) else 0
 
 abbrev pub label_number : Format → Label → Option ℕ
-label_number f l = cond (valid f l) (Some (nominal (values f).rate l - dropped_before f (minutes_in l))) None
+label_number f l = if valid f l then Some (nominal (values f).rate l - dropped_before f (minutes_in l)) else None
 
 abbrev pub added_to : Format → ℕ → ℕ
-added_to f n = cond (values f).drops (18 * (n / 17982) + 2 * ((n % 17982 - 2) / 1798)) 0
+added_to f n = if (values f).drops then 18 * (n / 17982) + 2 * ((n % 17982 - 2) / 1798) else 0
 
 abbrev pub nominal_label : ℕ → ℕ → Label
 nominal_label c n = record {

@@ -1,6 +1,6 @@
 -- Labels pair with the numbers below a day's count, in order, in every format.
 -- Assumes nothing.
-use Rattle.std.specs.Prelude.{◌≡◌, ℕ, ◌+◌, ◌-◌, ◌<◌, ◌≤◌, Bool, true, false, cond, not, ◌&&◌, Some, None, refl}
+use Rattle.std.specs.Prelude.{◌≡◌, ℕ, ◌+◌, ◌-◌, ◌<◌, ◌≤◌, Bool, true, false, if◌then◌else◌, not, ◌&&◌, Some, None, refl}
 use Rattle.std.proofs.Common.{ap, ◌∙◌, ⊎_elim, arith}
 use Rattle.forms.specs.Pairing.{Pairing, InOrder, Earlier}
 use Rattle.forms.specs.Formats.{values}
@@ -11,7 +11,7 @@ use Rattle.forms.specs.Order.{three_ways, compared}
 use Rattle.forms.specs.Nominal.{InRange, ranges, nominal_back, nominal_in_range, nominal_forth, nominal_lower}
 use Rattle.forms.specs.Dropped.{undone}
 
-some_from : (v : Bool) (x n : ℕ) → cond v (Some x) None ≡ Some n → (v ≡ true) × (x ≡ n)
+some_from : (v : Bool) (x n : ℕ) → (if v then Some x else None) ≡ Some n → (v ≡ true) × (x ≡ n)
 some_from true x n e = (refl, (cc))
 some_from false x n e = let z : ◌≡◌ {A = ℕ} 0 1 = cc in absurd (omega arith)
 
@@ -20,7 +20,7 @@ both_from true false e = (refl, refl)
 both_from true true e = let z : ◌≡◌ {A = ℕ} 0 1 = cc in absurd (omega arith)
 both_from false b e = let z : ◌≡◌ {A = ℕ} 0 1 = cc in absurd (omega arith)
 
-some_to : (a b : Bool) (x n : ℕ) → a ≡ true → b ≡ false → x ≡ n → cond (a && not b) (Some x) None ≡ Some n
+some_to : (a b : Bool) (x n : ℕ) → a ≡ true → b ≡ false → x ≡ n → (if a && not b then Some x else None) ≡ Some n
 some_to a b x n p q e = rw (p, q, e) refl
 
 -- what a label's having a number says

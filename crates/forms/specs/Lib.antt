@@ -9,3 +9,4 @@ pub mod Nominal
 pub mod Clock
 pub mod Dropped
 pub mod Texts
+pub mod TextLaws

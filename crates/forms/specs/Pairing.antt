@@ -5,7 +5,7 @@
 --   read_as     what reading a value answers
 --   written_as  what writing a number answers
 -- Assumes nothing.
-use Rattle.std.specs.Prelude.{◌≡◌, ℕ, ◌<◌, cond, ◌⊎◌, List, [], ◌∷◌, Some, Ok, Err, Option, Result, nat_lt}
+use Rattle.std.specs.Prelude.{◌≡◌, ℕ, ◌<◌, if◌then◌else◌, ◌⊎◌, List, [], ◌∷◌, Some, Ok, Err, Option, Result, nat_lt}
 use Rattle.std.specs.Option.{ok_or}
 use Rattle.refusal.specs.declared.Refusal.{Refusal}
 use Rattle.refusal.specs.declared.Refusal.TheVariants.{NotWritten, NotBelowCount}
@@ -28,4 +28,4 @@ abbrev pub read_as : Option ℕ → Result ℕ Refusal
 read_as o = ok_or o NotWritten
 
 abbrev pub written_as : {V : Type 0} → ℕ → (ℕ → V) → ℕ → Result V Refusal
-written_as count value n = cond (nat_lt n count) (Ok (value n)) (Err NotBelowCount)
+written_as count value n = if nat_lt n count then Ok (value n) else Err NotBelowCount

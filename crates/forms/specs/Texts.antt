@@ -6,16 +6,17 @@
 --   OneWord            a text is one word of a line: visible characters, and two at least, so that it is neither empty
 --                      nor the hyphen that stands for no label
 -- Assumes nothing.
-use Rattle.std.specs.Prelude.{◌≡◌, ℕ, ◌≤◌, Bool, cond, ◌&&◌, List, ◌++◌, length, drop, Some, Ok, Err, Option, Result, nat_le}
+use Rattle.std.specs.Prelude.{◌≡◌, ℕ, ◌≤◌, Bool, if◌then◌else◌, ◌&&◌, List, ◌++◌, length, drop, Some, Ok, Err, Option, Result, nat_le}
 use Rattle.std.specs.List.{AllByRecursion}
 use Rattle.refusal.specs.declared.Refusal.{Refusal}
 use Rattle.refusal.specs.declared.Refusal.TheVariants.{ShortBuffer, NotWritten}
 
 abbrev pub print_text_answer : Bool → List ℕ → ℕ → Result ℕ Refusal
-print_text_answer ok text room = cond ok (cond (nat_le (length text) room) (Ok (length text)) (Err ShortBuffer)) (Err NotWritten)
+print_text_answer ok text room =
+    if ok then (if nat_le (length text) room then Ok (length text) else Err ShortBuffer) else Err NotWritten
 
 abbrev pub print_text_after : Bool → List ℕ → List ℕ → List ℕ
-print_text_after ok text out = cond (ok && nat_le (length text) (length out)) (text ++ drop (length text) out) out
+print_text_after ok text out = if ok && nat_le (length text) (length out) then text ++ drop (length text) out else out
 
 pub record Spells (V : Type 0) (number : V → Option ℕ) (text : V → List ℕ) (bytes : List ℕ) (r : V) : Type 0 where
   pub own : (v : V) (n : ℕ) → number v ≡ Some n → bytes ≡ text v → r ≡ v

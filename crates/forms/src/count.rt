@@ -6,8 +6,15 @@ ghost use Rattle.std.proofs.Common.{rules};
 use crate::form::WrittenForm;
 use refusal::Refusal;
 
-// Positions lie below 2^36.
-const PLAIN_COUNT: u64 = 68_719_476_736;
+// Positions lie below 2^36; said here again, as forms stand on no timebase.
+const PLAIN_COUNT: u64 = 1 << 36;
+
+// The number itself, where it is below the count.
+fn below_count(n: u64) -> Option<u64>
+    ensures { result ≡ plain_number n }
+{
+    (n < PLAIN_COUNT).then_some(n)
+}
 
 #[derive(Clone, Copy)]
 pub struct PlainCount;
@@ -32,18 +39,10 @@ impl WrittenForm for PlainCount {
     }
 
     fn read(&self, v: u64) -> Result<u64, Refusal> {
-        if v < PLAIN_COUNT {
-            Ok(v)
-        } else {
-            Err(Refusal::NotWritten)
-        }
+        below_count(v).ok_or(Refusal::NotWritten)
     }
 
     fn write(&self, n: u64) -> Result<u64, Refusal> {
-        if n < PLAIN_COUNT {
-            Ok(n)
-        } else {
-            Err(Refusal::NotBelowCount)
-        }
+        below_count(n).ok_or(Refusal::NotBelowCount)
     }
 }

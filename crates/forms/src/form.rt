@@ -47,15 +47,15 @@ pub trait TextForm: WrittenForm {
     fn width(&self, v: Self::Value) -> usize
         ensures value { result ≡ length (text self.now v) }
         ensures short { result ≤ 32 }
-        ensures word { (n : ℕ) → Self.WrittenForm.number self.now v ≡ Some n → OneWord (text self.now v) };
+        ensures word { (n : ℕ) → Self.number self.now v ≡ Some n → OneWord (text self.now v) };
 
     // Writes a value's text at the front of `out`, and answers its length; refused where the value is not valid.
     fn print(&self, v: Self::Value, out: &mut [u8]) -> Result<usize, Refusal>
-        ensures value { result ≡ print_text_answer (is_some (Self.WrittenForm.number self.now v)) (text self.now v) (length out.old) }
-        ensures after { out.new ≡ print_text_after (is_some (Self.WrittenForm.number self.now v)) (text self.now v) out.old };
+        ensures value { result ≡ print_text_answer (is_some (Self.number self.now v)) (text self.now v) (length out.old) }
+        ensures after { out.new ≡ print_text_after (is_some (Self.number self.now v)) (text self.now v) out.old };
 
     // The value that a text writes, or one that is not valid, so that it is refused where it is read.
     fn value_of(&self, bytes: &[u8]) -> Self::Value
         ensures value { result ≡ spelt self.now bytes.now }
-        ensures spells { Spells Self.Value (Self.WrittenForm.number self.now) (text self.now) bytes.now result };
+        ensures spells { Spells Self.Value (Self.number self.now) (text self.now) bytes.now result };
 }

@@ -1,4 +1,4 @@
-// The four label formats and their numbers.
+// The four label formats and their numbers, as a table looked up by row.
 ghost use Rattle.std.specs.Prelude.{◌≡◌};
 ghost use Rattle.forms.specs.Formats.{values};
 
@@ -10,47 +10,76 @@ pub enum Format {
     Drop30,
 }
 
+// What a format decides.
+#[derive(Clone, Copy)]
+struct FormatValues {
+    rate: u64,
+    drops: bool,
+    day: u64,
+    separator: char,
+}
+
+// A row for each format, in the order of the cases.
+const FORMATS: [FormatValues; 4] = [
+    FormatValues {
+        rate: 24,
+        drops: false,
+        day: 2_073_600,
+        separator: ':',
+    },
+    FormatValues {
+        rate: 25,
+        drops: false,
+        day: 2_160_000,
+        separator: ':',
+    },
+    FormatValues {
+        rate: 30,
+        drops: false,
+        day: 2_592_000,
+        separator: ':',
+    },
+    FormatValues {
+        rate: 30,
+        drops: true,
+        day: 2_589_408,
+        separator: ';',
+    },
+];
+
 impl Format {
+    // The format's row of the table.
+    fn values(self) -> FormatValues
+        ensures { result ≡ values self }
+    {
+        FORMATS[self as usize]
+    }
+
     // How many frames a second of labels has.
     pub fn rate(self) -> u64
         ensures { result ≡ (values self).rate }
     {
-        match self {
-            Format::Film24 => 24,
-            Format::Pal25 => 25,
-            Format::Full30 | Format::Drop30 => 30,
-        }
+        self.values().rate
     }
 
     // Whether labels are left out, so that the count keeps up with 30000/1001 frames a second.
     pub fn drops(self) -> bool
         ensures { result ≡ (values self).drops }
     {
-        match self {
-            Format::Drop30 => true,
-            Format::Film24 | Format::Pal25 | Format::Full30 => false,
-        }
+        self.values().drops
     }
 
     // How many labels a day has.
     pub fn day(self) -> u64
         ensures { result ≡ (values self).day }
     {
-        match self {
-            Format::Film24 => 2_073_600,
-            Format::Pal25 => 2_160_000,
-            Format::Full30 => 2_592_000,
-            Format::Drop30 => 2_589_408,
-        }
+        self.values().day
     }
 
     // What stands between seconds and frames.
     pub fn separator(self) -> char
         ensures { result ≡ (values self).separator }
     {
-        match self {
-            Format::Drop30 => ';',
-            Format::Film24 | Format::Pal25 | Format::Full30 => ':',
-        }
+        self.values().separator
     }
 }

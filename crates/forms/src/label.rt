@@ -46,6 +46,7 @@ impl Label {
     }
 
     // The label of a number where none is left out.
+    #[tactic(auto, using(crate::specs::Clock::hour_below))]
     fn nominal(rate: u64, n: u64) -> Label
         requires some { 0 < rate }
         requires few { rate ≤ 30 }

@@ -1,9 +1,9 @@
 // Labels as text, `HH:MM:SS:FF`, with a semicolon before the frames where labels are dropped.
-ghost use Rattle.std.specs.Prelude.{◌≡◌, length};
+ghost use Rattle.std.specs.Prelude.{◌≡◌};
 ghost use Rattle.forms.specs.Formats.{values};
-ghost use Rattle.forms.specs.Labels.{label_number};
-ghost use Rattle.forms.specs.LabelText.{ReadsPart, separators, kept, Parses, parsed, label_text, label_written, text_number, print_answer, print_after};
+ghost use Rattle.forms.specs.LabelText.{ReadsPart, separators, kept, Parses, parsed, Told, label_text, label_written};
 
+use crate::form::TextForm;
 use crate::label::{Label, Labels};
 use refusal::Refusal;
 
@@ -44,7 +44,7 @@ impl Labels {
     }
 
     // The label's text, also where the format has not the label.
-    fn text(&self, label: Label) -> [u8; 11]
+    fn text(&self, label: Label) -> [u8; LABEL_TEXT]
         ensures { result ≡ label_text self.now.format label }
     {
         let last = self.last_separator();
@@ -63,41 +63,21 @@ impl Labels {
         ]
     }
 
-    // Writes the label's text at the front of `out`, and answers its length.
-    pub fn print(&self, label: Label, out: &mut [u8]) -> Result<usize, Refusal>
-        ensures value { result ≡ print_answer self.now.format label (length out.old) }
-        ensures after { out.new ≡ print_after self.now.format label out.old }
-    {
-        if !self.has(label) {
-            return Err(Refusal::NotWritten);
-        }
-        if out.len() < LABEL_TEXT {
-            return Err(Refusal::ShortBuffer);
-        }
-        let text = self.text(label);
-        out[0..LABEL_TEXT].copy_from_slice(&text);
-        Ok(LABEL_TEXT)
-    }
-
     // The label whose figures and separators a text has, also where the format has not the label.
+    #[tactic(auto, using(crate::proofs::Telling::told_length))]
     fn spelt(&self, text: &[u8]) -> Option<Label>
-        ensures value { kept self.now.format result ≡ parsed self.now.format text.now }
-        ensures cases { Parses self.now.format text.now (kept self.now.format result) }
+        ensures { Told self.now.format text.now (kept self.now.format result) }
     {
-        let [h1, h0, a, m1, m0, b, s1, s0, c, f1, f0] = text else {
+        let &[h1, h0, a, m1, m0, b, s1, s0, c, f1, f0] = text else {
             return None;
         };
         let label = Label {
-            hours: part(*h1, *h0)?,
-            minutes: part(*m1, *m0)?,
-            seconds: part(*s1, *s0)?,
-            frames: part(*f1, *f0)?,
+            hours: part(h1, h0)?,
+            minutes: part(m1, m0)?,
+            seconds: part(s1, s0)?,
+            frames: part(f1, f0)?,
         };
-        if self.separates(*a, *b, *c) {
-            Some(label)
-        } else {
-            None
-        }
+        self.separates(a, b, c).then_some(label)
     }
 
     // The label that a text writes.
@@ -105,20 +85,35 @@ impl Labels {
         ensures value { result ≡ parsed self.now.format text.now }
         ensures cases { Parses self.now.format text.now result }
     {
-        match self.spelt(text) {
-            Some(label) if self.has(label) => Ok(label),
-            _ => Err(Refusal::NotWritten),
-        }
+        self.spelt(text)
+            .filter(|label| self.has(*label))
+            .ok_or(Refusal::NotWritten)
+    }
+}
+
+impl TextForm for Labels {
+    ghost text = { λ f. label_text f.format };
+
+    ghost spelt = { λ f. label_written f.format };
+
+    fn width(&self, _v: Label) -> usize {
+        LABEL_TEXT
     }
 
-    // The label that a text writes, or one that no format has, so that it is refused where it is read.
-    pub fn label_of(&self, text: &[u8]) -> Label
-        ensures value { result ≡ label_written self.now.format text.now }
-        ensures number { label_number self.now.format result ≡ text_number self.now.format text.now }
-    {
-        match self.parse(text) {
-            Ok(label) => label,
-            Err(_) => Label::invalid(),
+    #[tactic(auto, using(crate::specs::TextLaws::label_had))]
+    fn print(&self, v: Label, out: &mut [u8]) -> Result<usize, Refusal> {
+        if !self.has(v) {
+            return Err(Refusal::NotWritten);
         }
+        if out.len() < LABEL_TEXT {
+            return Err(Refusal::ShortBuffer);
+        }
+        out[..LABEL_TEXT].copy_from_slice(&self.text(v));
+        Ok(LABEL_TEXT)
+    }
+
+    #[tactic(auto, using(crate::proofs::Telling::spells_label))]
+    fn value_of(&self, bytes: &[u8]) -> Label {
+        self.parse(bytes).unwrap_or(Label::invalid())
     }
 }

@@ -10,7 +10,7 @@ use Rattle.std.proofs.lemmas.Bool.{cases_lt, and_from, and_left, and_right, le-l
 use Rattle.timebase.specs.Meaning.{Sound, tally}
 use Rattle.book.specs.declared.cue.Cue.{Cue}
 use Rattle.book.specs.Cues.{AfterAll, Rising}
-use Rattle.book.proofs.Halves.{earlier_le}
+use Rattle.book.proofs.Rises.{earlier_le}
 use Rattle.history.specs.World.{World}
 use Rattle.history.specs.Accepted.{in_block}
 use Rattle.history.specs.Contents.{sample, in_play}

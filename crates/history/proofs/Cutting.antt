@@ -2,7 +2,7 @@
 --   parts_pass    where the whole is accepted, so is each part      whole_passes  and the other way
 --   lines_add     the whole adds as many lines as the parts
 --   same_parts    nothing tells the whole from the parts
---   cutting       the law, from what holds after any accepted calls
+--   cutting       the law
 -- Assumes nothing.
 use Rattle.std.proofs.Common.{◌≡◌, ℕ, ◌+◌, List, [], ◌∷◌, None, sum, sym, ap, ◌∙◌, subst}
 use Rattle.std.proofs.lemmas.List.Sums.{sum_by-cons}
@@ -12,7 +12,7 @@ use Rattle.history.specs.declared.call.Call.TheVariants.{Play}
 use Rattle.history.specs.World.{World}
 use Rattle.history.specs.Accepted.{crossed, refusal, with_call, accepted}
 use Rattle.history.specs.Laws.{played, AllAccepted, lines_of_all, CuttingAPlayShowsNowhere}
-use Rattle.history.proofs.Kept.{Kept}
+use Rattle.history.proofs.Keeping.{kept_all}
 use Rattle.history.proofs.Same.{Same, same_trans, alike}
 use Rattle.history.proofs.TwoPlays.{crossed_cut, crossed_none, cut_accepted, joined_accepted, none_accepted, same_none, same_cut}
 
@@ -37,9 +37,9 @@ module _ {V L : Type 0} (w : World V L) where
       let rest = ap (λ a. crossed w a (sum ns)) (sym (play_taken calls n all.0)) ∙ lines_add ns (Play n ∷ calls) all.1 in
       ap (crossed w (accepted w calls)) (sum_cons n ns) ∙ crossed_cut w (accepted w calls) n (sum ns) ∙ ap (λ k. crossed w (accepted w calls) n + k) rest
 
-  module _ (sound : Sound w.cues) (kept : (calls : List (Call V)) → Kept V L w (accepted w calls)) where
+  module _ (sound : Sound w.cues) where
     whole_passes : (parts : List ℕ) (calls : List (Call V)) → AllAccepted w calls parts → refusal w (accepted w calls) (Play (sum parts)) ≡ None
-    whole_passes [] calls all = none_accepted w (accepted w calls) (kept calls).ends
+    whole_passes [] calls all = none_accepted w (accepted w calls) (kept_all w calls).ends
     whole_passes (n ∷ ns) calls all =
         let rest = subst (λ a. refusal w a (Play (sum ns)) ≡ None) (play_taken calls n all.0) (whole_passes ns (Play n ∷ calls) all.1) in
         let whole = joined_accepted w (accepted w calls) n (sum ns) all.0 rest in
@@ -56,15 +56,15 @@ module _ {V L : Type 0} (w : World V L) where
         play_taken calls (sum (n ∷ ns)) (whole_passes (n ∷ ns) calls all) ∙ ap (λ k. Play k ∷ a) (sum_cons n ns) in
         let two : accepted w (Play (sum ns) ∷ Play n ∷ calls) ≡ Play (sum ns) ∷ Play n ∷ a =
         play_taken (Play n ∷ calls) (sum ns) (whole_passes ns (Play n ∷ calls) all.1) ∙ ap (λ b. Play (sum ns) ∷ b) (play_taken calls n all.0) in
-        let cut = same_cut w a sound (kept calls) n (sum ns) in
+        let cut = same_cut w a sound (kept_all w calls) n (sum ns) in
         let right = subst (λ b. Same V L w (Play (n + sum ns) ∷ a) b) (sym two) cut in
         let both = subst (λ b. Same V L w b (accepted w (Play (sum ns) ∷ Play n ∷ calls))) (sym whole) right in
         same_trans w both (same_parts ns (Play n ∷ calls) all.1)
 
-pub cutting : (V L : Type 0) → ((w : World V L) → Sound w.cues → (calls : List (Call V)) → Kept V L w (accepted w calls)) → CuttingAPlayShowsNowhere V L
-cutting V L kept_all w sound calls parts = record {
+pub cutting : (V L : Type 0) → CuttingAPlayShowsNowhere V L
+cutting V L w sound calls parts = record {
   parts_accepted = parts_pass w parts calls;
-  whole_accepted = whole_passes w sound (kept_all w sound) parts calls;
+  whole_accepted = whole_passes w sound parts calls;
   counts = lines_add w parts calls;
-  later = λ all more. alike w (Play (sum parts) ∷ calls) (played parts calls) (same_parts w sound (kept_all w sound) parts calls all) more;
+  later = λ all more. alike w (Play (sum parts) ∷ calls) (played parts calls) (same_parts w sound parts calls all) more;
 }

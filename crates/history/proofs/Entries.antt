@@ -5,6 +5,7 @@ use Rattle.std.proofs.lemmas.Bool.{eqb-false, or_cases, or_parts, or_left, or_ri
 use Rattle.std.specs.List.{AllByRecursion}
 use Rattle.book.specs.declared.cue.Cue.{Cue}
 use Rattle.book.specs.Cues.{earlier, entered, numbered, struck, AfterAll, Rising}
+use Rattle.history.proofs.Numbers.{none_kept}
 
 module _ {V : Type 0} where
   -- the order as numbers have it
@@ -57,13 +58,9 @@ module _ {V : Type 0} where
   Lacks n [] = Unit {0}
   Lacks n (x ∷ xs) = (numbered n x ≡ false) × Lacks n xs
 
-  kept_none : (b : Bool) (x : Cue V) (xs : List (Cue V)) → cond b (x ∷ xs) xs ≡ [] → (b ≡ false) × (xs ≡ [])
-  kept_none true x xs e = absurd (let z : ◌≡◌ {A = ℕ} 0 1 = cc in omega arith)
-  kept_none false x xs e = (refl, e)
-
   pub lacks : (n : ℕ) (xs : List (Cue V)) → filter (numbered n) xs ≡ [] → Lacks n xs
   lacks n [] e = tt
-  lacks n (x ∷ xs) e = let p = kept_none (numbered n x) x (filter (numbered n) xs) e in (p.0, lacks n xs p.1)
+  lacks n (x ∷ xs) e = let p = none_kept x (filter (numbered n) xs) (numbered n x) e in (p.0, lacks n xs p.1)
 
   rising_step : (c x : Cue V) (xs : List (Cue V)) (b : Bool) → earlier x c ≡ b → numbered c.number x ≡ false → Rising (x ∷ xs) → Rising (entered c xs)
       → Rising (cond b (x ∷ entered c xs) (c ∷ x ∷ xs))

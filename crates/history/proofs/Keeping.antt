@@ -2,7 +2,7 @@
 use Rattle.std.proofs.Common.{◌≡◌, ℕ, ◌+◌, ◌-◌, ◌<◌, ◌≤◌, Bool, true, false, cond, not, eqb, ltb, leb, List, [], ◌∷◌, map, length, is_some, Some, None, filter, Option, unwrap_or, sym, refl, ap, ◌∙◌, arith, ltb-false, ltb-true, eqb-true, leb-false}
 use Rattle.std.proofs.lemmas.Bool.{eqb-false, not-false, or_parts, cond-false}
 use Rattle.std.proofs.lemmas.List.{length-append, length-map}
-use Rattle.std.specs.Option.{option_map, option_to_list}
+use Rattle.std.specs.Option.{option_and_then, option_map, option_to_list}
 use Rattle.std.specs.Result.{result_ok}
 use Rattle.refusal.specs.declared.Refusal.{Refusal}
 use Rattle.refusal.specs.declared.Refusal.TheVariants.{NoPosition, NotWritten, CueOutOfRange, CueAlreadyIn, NoFreePlace, HeadPastEnd, NoFreeLines}
@@ -11,7 +11,7 @@ use Rattle.book.specs.declared.cue.Cue.{Cue}
 use Rattle.book.specs.Cues.{entered, numbered, struck}
 use Rattle.history.specs.declared.call.Call.{Call}
 use Rattle.history.specs.declared.call.Call.TheVariants.{Add, Strike, Seek, Play}
-use Rattle.history.specs.World.{World, and_then, sample_of}
+use Rattle.history.specs.World.{World, sample_of}
 use Rattle.history.specs.Accepted.{head, stands, numbers_in, end, out_of_range, crossed, added, refusal, with_call, accepted, numbers}
 use Rattle.history.specs.Contents.{cue_of, book_of, log_of, in_play, line_of}
 use Rattle.history.proofs.Kept.{Good, Kept}
@@ -33,7 +33,7 @@ placed_is : {V L : Type 0} (w : World V L) (p : ℕ) (b : Bool) → ltb p w.cues
 placed_is w p true e h = ltb-true _ _ e
 placed_is w p false e h =
     let none : is_some (result_ok (placed w.cues p)) ≡ false = ap (λ o. is_some (result_ok o)) (cond-false (ltb p w.cues.len) _ _ e) in
-    absurd (let y : ◌≡◌ {A = ℕ} 0 1 = cc in omega arith)
+    absurd (cc)
 
 within : (room used more : ℕ) → used ≤ room → more ≤ room - used → used + more ≤ room
 within room used more h m = omega arith
@@ -46,7 +46,7 @@ module _ {V L : Type 0} (w : World V L) (a : List (Call V)) where
       CueOutOfRange CueAlreadyIn NotWritten NoPosition NoFreePlace none in
       let is : w.number v ≡ Some at = some_of (w.number v) 0 (not-false (is_some (w.number v)) ok.2) in
       let put : is_some (result_ok (placed w.cues at)) ≡ true
-      = sym (ap (λ o. is_some (and_then o (λ p. result_ok (placed w.cues p)))) is) ∙ not-false (is_some (sample_of w v)) ok.3 in
+      = sym (ap (λ o. is_some (option_and_then (λ p. result_ok (placed w.cues p)) o)) is) ∙ not-false (is_some (sample_of w v)) ok.3 in
       record {
         new = none_of (stands n a) ok.1;
         good = record { few = few_of n ok.0; valid = is; inside = placed_is w at (ltb at w.cues.len) refl put };

@@ -32,6 +32,15 @@ abbrev pub sum_to : (ℕ → ℕ) → ℕ → ℕ
 sum_to f zero = 0
 sum_to f (suc n) = sum_to f n + f n
 
+-- a list of one, and a list of none, by what a test keeps
+pub one_kept : {X : Type 0} (x : X) (b : Bool) → length (cond b (x ∷ []) []) ≡ cond b 1 0
+one_kept x true = refl
+one_kept x false = refl
+
+pub none_kept : {X : Type 0} (x : X) (xs : List X) (b : Bool) → cond b (x ∷ xs) xs ≡ [] → (b ≡ false) × (xs ≡ [])
+none_kept x xs true e = absurd (cc)
+none_kept x xs false e = (refl, e)
+
 pub sum_same : (f g : ℕ → ℕ) (n : ℕ) → ((c : ℕ) → c < n → f c ≡ g c) → sum_to f n ≡ sum_to g n
 sum_same f g zero e = refl
 sum_same f g (suc n) e =
@@ -93,11 +102,7 @@ module _ {V : Type 0} (T : Cue V → Bool) where
 
   alone : (o : Option (Cue V)) → length (filter T (option_to_list o)) ≡ cond (holds_of o T) 1 0
   alone None = refl
-  alone (Some x) = alone_step (T x) x
-    where
-      alone_step : (b : Bool) (y : Cue V) → length (cond b (y ∷ []) []) ≡ cond b 1 0
-      alone_step true y = refl
-      alone_step false y = refl
+  alone (Some x) = one_kept x (T x)
 
   -- where each number has at most the one cue that `at` gives it, counting numbers counts cues
   pub tally_cues : (at : ℕ → Option (Cue V)) (n : ℕ) (xs : List (Cue V)) → ((c : ℕ) → filter (numbered c) xs ≡ option_to_list (at c)) → AllByRecursion (λ x. x.number < n) xs

@@ -1,27 +1,23 @@
 -- Every crossing has one line. Assumes nothing.
-use Rattle.std.proofs.Common.{◌≡◌, ℕ, suc, ◌+◌, Bool, true, false, cond, ◌&&◌, eqb, List, [], ◌∷◌, ◌++◌, map, length, Some, None, Ok, filter, Option, sym, refl, ap, ◌∙◌, arith, eqb-true}
+use Rattle.std.proofs.Common.{◌≡◌, ℕ, suc, ◌+◌, Bool, true, false, cond, ◌&&◌, eqb, List, [], ◌∷◌, ◌++◌, map, length, Some, None, Ok, filter, Option, sym, refl, ap, ◌∙◌, eqb-true}
 use Rattle.std.proofs.Math.Bool.{and-false}
 use Rattle.std.proofs.lemmas.List.Elements.{filter-append}
 use Rattle.std.proofs.lemmas.List.{length-append, length-map}
-use Rattle.std.specs.Option.{option_map, option_to_list}
+use Rattle.std.specs.Option.{option_and_then, option_map, option_to_list}
 use Rattle.refusal.specs.declared.Refusal.{Refusal}
 use Rattle.book.specs.declared.cue.Cue.{Cue}
 use Rattle.book.specs.declared.cue.Line.{Line}
 use Rattle.book.specs.Cues.{numbered}
 use Rattle.history.specs.declared.call.Call.{Call}
 use Rattle.history.specs.declared.call.Call.TheVariants.{Add, Strike, Seek, Play}
-use Rattle.history.specs.World.{World, and_then, sample_of}
+use Rattle.history.specs.World.{World, sample_of}
 use Rattle.history.specs.Accepted.{head, stands, in_block, holds_of, stands_on, crossed, refusal, with_call, accepted, crossings}
 use Rattle.history.specs.Contents.{cue_of, book_of, log_of, sample, in_play, line_of}
 use Rattle.history.specs.Laws.{lines_with, answered, EveryCrossingIsLoggedOnce, APlayAnswersItsLines}
 use Rattle.history.proofs.Kept.{Kept}
-use Rattle.history.proofs.Numbers.{kept_both, kept_same}
+use Rattle.history.proofs.Numbers.{one_kept, kept_both, kept_same}
 use Rattle.history.proofs.Standing.{found, sample_good, crossed_is}
 use Rattle.history.proofs.Keeping.{kept_all}
-
-alone : {X : Type 0} (x : X) (b : Bool) → length (cond b (x ∷ []) []) ≡ cond b 1 0
-alone x true = refl
-alone x false = refl
 
 -- a test of t, where t is s, is a test of s
 same_sample : (test : ℕ → Bool) (t s : ℕ) (b : Bool) → eqb t s ≡ b → (test t && b) ≡ (test s && b)
@@ -48,11 +44,11 @@ module _ {V L : Type 0} (w : World V L) (a : List (Call V)) (k : Kept V L w a) (
   abbrev here : Cue V → Bool
   here x = in_play w (head a) n x && eqb (sample w x) s
 
-  one_cue : (o : Option V) → stands c a ≡ o → length (filter here (option_to_list (option_map (cue_of w c) o))) ≡ cond (in_block (head a) n s && holds_of (and_then o (sample_of w)) (λ t. eqb t s)) 1 0
+  one_cue : (o : Option V) → stands c a ≡ o → length (filter here (option_to_list (option_map (cue_of w c) o))) ≡ cond (in_block (head a) n s && holds_of (option_and_then (sample_of w) o) (λ t. eqb t s)) 1 0
   one_cue None is = ap (λ b. cond b 1 0) (sym (and-false (in_block (head a) n s)))
   one_cue (Some v) is =
       let x : Cue V = cue_of w c v in
-      alone x (here x)
+      one_kept x (here x)
       ∙ ap (λ b. cond b 1 0) (same_sample (in_block (head a) n) (sample w x) s (eqb (sample w x) s) refl)
       ∙ ap (λ o. cond (in_block (head a) n s && holds_of o (λ t. eqb t s)) 1 0) (sym (sample_good w x (found w a k c v is)))
 
@@ -92,7 +88,7 @@ every_crossing_is_logged_once V L w sound calls at cs ls after c s = ap (lines_w
 
 answered_ok : (r : Option Refusal) (m k : ℕ) → answered r m ≡ Ok k → (r ≡ None) × (m ≡ k)
 answered_ok None m k e = (refl, cc)
-answered_ok (Some x) m k e = absurd (let y : ◌≡◌ {A = ℕ} 0 1 = cc in omega arith)
+answered_ok (Some x) m k e = absurd (cc)
 
 pub a_play_answers_its_lines : (V L : Type 0) → APlayAnswersItsLines V L
 a_play_answers_its_lines V L w sound calls n k e =

@@ -4,6 +4,7 @@
 --   same_more       and after any further calls they are the same still
 --   alike           so that nothing tells them apart, now or later
 -- Assumes nothing.
+use Rattle.std.specs.Option.{option_and_then}
 use Rattle.std.proofs.Common.{◌≡◌, ℕ, ◌+◌, ◌-◌, cond, not, eqb, ltb, leb, List, [], ◌∷◌, ◌++◌, map, is_some, Some, None, filter, Option, refl, ap, ◌∙◌, subst}
 use Rattle.std.proofs.Math.Path.{fun_ext}
 use Rattle.refusal.specs.declared.Refusal.{Refusal}
@@ -12,7 +13,7 @@ use Rattle.timebase.specs.Meaning.{tally}
 use Rattle.book.specs.Cues.{entered, struck}
 use Rattle.history.specs.declared.call.Call.{Call}
 use Rattle.history.specs.declared.call.Call.TheVariants.{Add, Strike, Seek, Play}
-use Rattle.history.specs.World.{World, and_then, sample_of}
+use Rattle.history.specs.World.{World, sample_of}
 use Rattle.history.specs.Accepted.{head, stands, in_block, holds_of, numbers, numbers_in, first, out_of_range, end, crossed, added, refusal, with_call, accepted}
 use Rattle.history.specs.Contents.{cue_of, book_of, line_of, in_play, log_of}
 use Rattle.history.specs.Laws.{lines_by, answered, Alike}
@@ -52,7 +53,7 @@ module _ {V L : Type 0} (w : World V L) where
     numbers_same = ap (λ f. tally f numbers) (fun_ext (λ c. ap is_some (s.stood c)))
 
     crossed_same : (n : ℕ) → crossed w a n ≡ crossed w b n
-    crossed_same n = ap (λ f. tally f numbers) (fun_ext (λ c i. holds_of (and_then (s.stood c i) (sample_of w)) (in_block (s.heads i) n)))
+    crossed_same n = ap (λ f. tally f numbers) (fun_ext (λ c i. holds_of (option_and_then (sample_of w) (s.stood c i)) (in_block (s.heads i) n)))
 
     pub refusal_same : (call : Call V) → refusal w a call ≡ refusal w b call
     refusal_same (Add n v) = λ i. add_refusal w n v (s.stood n i) (numbers_same i)

@@ -1,8 +1,9 @@
 -- The cues that pass a test, after a cue was entered or struck. Assumes nothing.
-use Rattle.std.proofs.Common.{◌≡◌, ℕ, Bool, true, false, cond, eqb, List, [], ◌∷◌, filter, sym, refl, ap, ◌∙◌, arith, ne_eqb, eqb-true}
+use Rattle.std.proofs.Common.{◌≡◌, ℕ, Bool, true, false, cond, eqb, List, [], ◌∷◌, filter, sym, refl, ap, ◌∙◌, ne_eqb, eqb-true}
 use Rattle.std.proofs.lemmas.Bool.{cond-true, cond-false}
 use Rattle.book.specs.declared.cue.Cue.{Cue}
 use Rattle.book.specs.Cues.{earlier, entered, numbered, struck}
+use Rattle.history.proofs.Numbers.{none_kept}
 
 module _ {V : Type 0} (t : Cue V → Bool) where
   other_step : (c x : Cue V) (xs : List (Cue V)) (b : Bool) → t c ≡ false → filter t (entered c xs) ≡ filter t xs
@@ -14,10 +15,6 @@ module _ {V : Type 0} (t : Cue V → Bool) where
   entered_other c [] f = cond-false (t c) (c ∷ []) [] f
   entered_other c (x ∷ xs) f = other_step c x xs (earlier x c) f (entered_other c xs f)
 
-  none_step : (x : Cue V) (ys : List (Cue V)) (b : Bool) → cond b (x ∷ ys) ys ≡ [] → (b ≡ false) × (ys ≡ [])
-  none_step x ys true e = absurd (let z : ◌≡◌ {A = ℕ} 0 1 = cc in omega arith)
-  none_step x ys false e = (refl, e)
-
   one_step : (c x : Cue V) (xs : List (Cue V)) (b : Bool) → t c ≡ true → t x ≡ false → filter t xs ≡ [] → filter t (entered c xs) ≡ c ∷ []
       → filter t (cond b (x ∷ entered c xs) (c ∷ x ∷ xs)) ≡ c ∷ []
   one_step c x xs true e f none ih = cond-false (t x) (x ∷ filter t (entered c xs)) (filter t (entered c xs)) f ∙ ih
@@ -28,7 +25,7 @@ module _ {V : Type 0} (t : Cue V → Bool) where
   pub entered_one : (c : Cue V) (xs : List (Cue V)) → t c ≡ true → filter t xs ≡ [] → filter t (entered c xs) ≡ c ∷ []
   entered_one c [] e none = cond-true (t c) (c ∷ []) [] e
   entered_one c (x ∷ xs) e none =
-      let p = none_step x (filter t xs) (t x) none in
+      let p = none_kept x (filter t xs) (t x) none in
       one_step c x xs (earlier x c) e p.0 p.1 (entered_one c xs e p.1)
 
 abbrev pub tail : {X : Type 0} → List X → List X

@@ -1,8 +1,8 @@
 -- Counting the numbers that stand is counting the cues of the book. Assumes nothing.
-use Rattle.std.proofs.Common.{◌≡◌, ℕ, ◌<◌, Bool, true, false, ltb, List, [], ◌∷◌, length, is_some, Some, None, filter, Option, unwrap_or, refl, ap, ◌∙◌, subst, arith, lt-ltb}
+use Rattle.std.proofs.Common.{◌≡◌, ℕ, ◌<◌, Bool, true, false, ltb, List, [], ◌∷◌, length, is_some, Some, None, filter, Option, unwrap_or, refl, ap, ◌∙◌, subst, lt-ltb}
 use Rattle.std.proofs.lemmas.Bool.{cond-true}
 use Rattle.std.proofs.ByRecursion.{all_kept_by}
-use Rattle.std.specs.Option.{option_map, option_to_list}
+use Rattle.std.specs.Option.{option_and_then, option_map, option_to_list}
 use Rattle.std.specs.Result.{result_ok}
 use Rattle.std.specs.List.{AllByRecursion}
 use Rattle.refusal.specs.declared.Refusal.{Refusal}
@@ -10,14 +10,14 @@ use Rattle.timebase.specs.Meaning.{placed}
 use Rattle.book.specs.declared.cue.Cue.{Cue}
 use Rattle.book.specs.Cues.{numbered}
 use Rattle.history.specs.declared.call.Call.{Call}
-use Rattle.history.specs.World.{World, and_then, sample_of}
+use Rattle.history.specs.World.{World, sample_of}
 use Rattle.history.specs.Accepted.{head, stands, holds_of, numbers_in, first, crosses, crossed, in_block, numbers}
 use Rattle.history.specs.Contents.{cue_of, book_of, in_play}
 use Rattle.history.proofs.Kept.{Good, Kept}
 use Rattle.history.proofs.Numbers.{tally_same, tally_cues}
 
 pub passed : (b : Bool) (e : Refusal) (checks : List (Bool × Refusal)) → first ((b, e) ∷ checks) ≡ None → (b ≡ false) × (first checks ≡ None)
-passed true e checks h = absurd (let z : ◌≡◌ {A = Bool} true false = cc in let y : ◌≡◌ {A = ℕ} 0 1 = cc in omega arith)
+passed true e checks h = absurd (cc)
 passed false e checks h = (refl, h)
 
 pub passed_two : (a b : Bool) (e f : Refusal) → first ((a, e) ∷ (b, f) ∷ []) ≡ None → (a ≡ false) × (b ≡ false)
@@ -33,12 +33,12 @@ passed_five a b c d e q r s t u h =
     (one.0, two.0, three.0, four.0, four.1)
 
 pub some_of : {A : Type 0} (o : Option A) (d : A) → is_some o ≡ true → o ≡ Some (unwrap_or o d)
-some_of None d h = absurd (let y : ◌≡◌ {A = ℕ} 0 1 = cc in omega arith)
+some_of None d h = absurd (cc)
 some_of (Some x) d h = refl
 
 pub none_of : {A : Type 0} (o : Option A) → is_some o ≡ false → o ≡ None
 none_of None h = refl
-none_of (Some x) h = absurd (let y : ◌≡◌ {A = ℕ} 0 1 = cc in omega arith)
+none_of (Some x) h = absurd (cc)
 
 keep_all : {X : Type 0} (xs : List X) → filter (λ x. true) xs ≡ xs
 keep_all [] = refl
@@ -54,7 +54,7 @@ module _ {V L : Type 0} (w : World V L) where
 
   -- a good cue falls on the rule's sample
   pub sample_good : (x : Cue V) → Good V L w x → sample_of w x.at ≡ Some (w.cues.rule x.position)
-  sample_good x good = ap (λ o. and_then o (λ p. result_ok (placed w.cues p))) good.valid ∙ placed_in x.position good.inside
+  sample_good x good = ap (λ o. option_and_then (λ p. result_ok (placed w.cues p)) o) good.valid ∙ placed_in x.position good.inside
 
   module _ (a : List (Call V)) (k : Kept V L w a) where
     -- the cue of a number that stands is a good one
@@ -67,7 +67,7 @@ module _ {V L : Type 0} (w : World V L) where
     abbrev cue_at : ℕ → Option (Cue V)
     cue_at c = option_map (cue_of w c) (stands c a)
 
-    crosses_cue : (n c : ℕ) (o : Option V) → stands c a ≡ o → holds_of (and_then o (sample_of w)) (in_block (head a) n) ≡ holds_of (option_map (cue_of w c) o) (in_play w (head a) n)
+    crosses_cue : (n c : ℕ) (o : Option V) → stands c a ≡ o → holds_of (option_and_then (sample_of w) o) (in_block (head a) n) ≡ holds_of (option_map (cue_of w c) o) (in_play w (head a) n)
     crosses_cue n c None is = refl
     crosses_cue n c (Some v) is = ap (λ o. holds_of o (in_block (head a) n)) (sample_good (cue_of w c v) (found c v is))
 

@@ -5,7 +5,7 @@
 --   same_cut         nothing tells the whole from the parts
 --   none_accepted    a play of nothing is accepted, and same_none: it leaves everything the same
 -- Assumes nothing.
-use Rattle.std.proofs.Common.{◌≡◌, ℕ, ◌+◌, ◌-◌, ◌≤◌, Bool, true, false, cond, ltb, List, [], ◌∷◌, ◌++◌, map, Some, None, filter, Option, sym, refl, ap, ◌∙◌, add-zero, add_assoc, arith}
+use Rattle.std.proofs.Common.{◌≡◌, ℕ, ◌+◌, ◌-◌, ◌≤◌, Bool, false, cond, ltb, List, [], ◌∷◌, ◌++◌, map, Some, None, filter, Option, sym, refl, ap, ◌∙◌, add-zero, add_assoc, arith}
 use Rattle.std.proofs.lemmas.List.{append-nil, append_assoc, map-append}
 use Rattle.std.proofs.lemmas.Bool.{ltb-false, le-ltb}
 use Rattle.refusal.specs.declared.Refusal.{Refusal}
@@ -19,11 +19,7 @@ use Rattle.history.specs.Contents.{book_of, line_of, in_play, log_of}
 use Rattle.history.proofs.Kept.{Kept}
 use Rattle.history.proofs.Blocks.{no_block, two_blocks, tally_split, tally_none, empty_block, split_block}
 use Rattle.history.proofs.Same.{Same, play_refusal}
-
-both_pass : (p q : Bool) (e f : Refusal) → first ((p, e) ∷ (q, f) ∷ []) ≡ None → (p ≡ false) × (q ≡ false)
-both_pass true q e f h = let z : ◌≡◌ {A = ℕ} 0 1 = cc in absurd (omega arith)
-both_pass false true e f h = let z : ◌≡◌ {A = ℕ} 0 1 = cc in absurd (omega arith)
-both_pass false false e f h = (refl, refl)
+use Rattle.history.proofs.Standing.{passed_two}
 
 pass_both : (p q : Bool) (e f : Refusal) → p ≡ false → q ≡ false → first ((p, e) ∷ (q, f) ∷ []) ≡ None
 pass_both p q e f d g = λ i. first ((d i, e) ∷ (g i, f) ∷ [])
@@ -61,7 +57,7 @@ cut_log f log whole one two e = ap (λ xs. log ++ map f xs) e ∙ ap (λ ys. log
 module _ {V L : Type 0} (w : World V L) where
   plays : (h n before k : ℕ) → play_refusal w h n before k ≡ None → Plays h n w.lines before k
   plays h n before k e =
-      let p = both_pass (ltb end (h + n)) (ltb (w.lines - before) k) _ _ e in
+      let p = passed_two (ltb end (h + n)) (ltb (w.lines - before) k) _ _ e in
       record { ends = ltb-false end (h + n) p.0; room = ltb-false (w.lines - before) k p.1 }
 
   plays_on : (h n before k : ℕ) → Plays h n w.lines before k → play_refusal w h n before k ≡ None

@@ -5,13 +5,14 @@
 --   added      how many lines the plays have added  refusal    why a call is refused, if it is
 --   accepted   the accepted calls among all         crossings  how often plays crossed a sample while a number stood there
 -- All but `accepted` read accepted calls only. Assumes nothing.
+use Rattle.std.specs.Option.{option_and_then}
 use Rattle.std.specs.Prelude.{ℕ, ◌+◌, ◌-◌, ◌^◌, Bool, false, cond, not, ◌&&◌, ◌||◌, List, [], ◌∷◌, is_some, Some, None, Option, ◌==◌, nat_eq, nat_le, nat_lt}
 use Rattle.refusal.specs.declared.Refusal.{Refusal}
 use Rattle.refusal.specs.declared.Refusal.TheVariants.{NoPosition, NotWritten, CueOutOfRange, CueAlreadyIn, NoFreePlace, CueNotIn, HeadPastEnd, NoFreeLines}
 use Rattle.timebase.specs.Meaning.{tally}
 use Rattle.history.specs.declared.call.Call.{Call}
 use Rattle.history.specs.declared.call.Call.TheVariants.{Add, Strike, Seek, Play}
-use Rattle.history.specs.World.{World, and_then, sample_of}
+use Rattle.history.specs.World.{World, sample_of}
 
 abbrev pub head : {V : Type 0} → List (Call V) → ℕ
 head [] = 0
@@ -56,7 +57,7 @@ end = 2 ^ 36
 
 module _ {V L : Type 0} (w : World V L) where
   abbrev pub stands_on : ℕ → List (Call V) → Option ℕ
-  stands_on c a = and_then (stands c a) (sample_of w)
+  stands_on c a = option_and_then (sample_of w) (stands c a)
 
   abbrev pub crosses : List (Call V) → ℕ → ℕ → Bool
   crosses a n c = holds_of (stands_on c a) (in_block (head a) n)

@@ -4,7 +4,8 @@
 --   label    the label current at a sample, where there is one
 --   places   how many cues the book may hold      lines   how many lines the log may hold
 -- Assumes nothing.
-use Rattle.std.specs.Prelude.{ℕ, Some, None, Option}
+use Rattle.std.specs.Prelude.{ℕ, Option}
+use Rattle.std.specs.Option.{option_and_then}
 use Rattle.std.specs.Result.{result_ok}
 use Rattle.timebase.specs.Meaning.{Meaning, placed}
 
@@ -15,10 +16,6 @@ pub record World (V L : Type 0) : Type 0 where
   pub places : ℕ
   pub lines : ℕ
 
-abbrev pub and_then : {A B : Type 0} → Option A → (A → Option B) → Option B
-and_then None f = None
-and_then (Some x) f = f x
-
 -- the sample of a written form: place of its number
 abbrev pub sample_of : {V L : Type 0} → World V L → V → Option ℕ
-sample_of w v = and_then (w.number v) (λ p. result_ok (placed w.cues p))
+sample_of w v = option_and_then (λ p. result_ok (placed w.cues p)) (w.number v)

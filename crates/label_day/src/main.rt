@@ -2,13 +2,17 @@
 // for each hour a hash of the labels' texts and the sum of their numbers; then some positions by hand.
 #![tactic(auto)]
 
-use forms::form::WrittenForm;
+use forms::form::{TextForm, WrittenForm};
 use forms::format::Format;
 use forms::label::Labels;
 use refusal::Refusal;
+use std::hash::Hasher;
 use std::io;
+use std::ops::Range;
 use std::str::from_utf8;
+use trials::tally::Tally;
 
+// The formats, as the outside library's program names them: the names are for this output alone, so no Display of Format.
 const FORMATS: [(&str, Format); 4] = [
     ("film24", Format::Film24),
     ("pal25", Format::Pal25),
@@ -22,58 +26,30 @@ const WORKED: [u64; 6] = [1_799, 1_800, 17_982, 107_892, 2_589_407, 2_589_408];
 // Texts for 30 drop: one that it leaves out, two that it has, and one with a colon too many.
 const SOUGHT: [&str; 4] = ["00:01:00;01", "00:01:00;02", "00:10:00;00", "00:10:00:00"];
 
-#[derive(Clone, Copy)]
-struct Tally {
-    hash: u64,
-    sum: u64,
-}
-
-impl Tally {
-    const EMPTY: Tally = Tally {
-        hash: 0xcbf2_9ce4_8422_2325,
-        sum: 0,
-    };
-
-    // FNV-1a over a label's text, and the sum of the numbers.
-    fn with(self, text: &[u8], n: u64) -> Tally {
-        let mut hash = self.hash;
-        for byte in text {
-            hash = (hash ^ u64::from(*byte)).wrapping_mul(0x100_0000_01b3);
-        }
-        Tally {
-            hash,
-            sum: self.sum.wrapping_add(n),
-        }
-    }
-}
-
 // Number `n` written, printed, parsed and read again.
-fn there_and_back(labels: &Labels, n: u64, tally: Tally) -> Result<Tally, Refusal> {
+fn there_and_back(labels: &Labels, n: u64, mut tally: Tally) -> Result<Tally, Refusal> {
     let mut text = [0; 11];
     labels.print(labels.write(n)?, &mut text)?;
-    let back = labels.read(labels.parse(&text)?)?;
-    Ok(tally.with(&text, back))
+    tally.hash.write(&text);
+    tally.add(labels.read(labels.parse(&text)?)?);
+    Ok(tally)
 }
 
-fn run(labels: &Labels, from: u64, until: u64) -> Result<Tally, Refusal> {
-    let mut tally = Tally::EMPTY;
-    for n in from..until {
-        tally = there_and_back(labels, n, tally)?;
-    }
-    Ok(tally)
+fn run(labels: &Labels, mut numbers: Range<u64>) -> Result<Tally, Refusal> {
+    numbers.try_fold(Tally::default(), |tally, n| {
+        there_and_back(labels, n, tally)
+    })
 }
 
 fn day(rt: &HostRuntime, name: &str, format: Format) -> io::Result<()> {
     let labels = Labels { format };
     let long = labels.count() / 24;
+    // An hour of the day, which is printed too, and no index.
     for hour in 0..24u64 {
         let from = long.wrapping_mul(hour);
-        match run(&labels, from, from.wrapping_add(long)) {
-            Ok(Tally { hash, sum }) => println!(rt; "{name} {hour:02} {hash:016x} {sum}")?,
-            Err(refusal) => {
-                let number = refusal.number();
-                println!(rt; "{name} {hour:02} refused {number}")?
-            }
+        match run(&labels, from..from.wrapping_add(long)) {
+            Ok(tally) => println!(rt; "{name} {hour:02} {tally}")?,
+            Err(why) => println!(rt; "{name} {hour:02} {why}")?,
         }
     }
     Ok(())
@@ -90,20 +66,14 @@ fn worked(rt: &HostRuntime, labels: &Labels, n: u64) -> io::Result<()> {
             let text = from_utf8(&text).unwrap_or("no text");
             println!(rt; "{n} {text}")
         }
-        Err(refusal) => {
-            let number = refusal.number();
-            println!(rt; "{n} refused {number}")
-        }
+        Err(why) => println!(rt; "{n} {why}"),
     }
 }
 
 fn sought(rt: &HostRuntime, labels: &Labels, text: &str) -> io::Result<()> {
-    match labels.read(labels.label_of(text.as_bytes())) {
+    match labels.read(labels.value_of(text.as_bytes())) {
         Ok(n) => println!(rt; "{text} {n}"),
-        Err(refusal) => {
-            let number = refusal.number();
-            println!(rt; "{text} refused {number}")
-        }
+        Err(why) => println!(rt; "{text} {why}"),
     }
 }
 

@@ -6,13 +6,15 @@
 --   on_positions     the meaning of a layer that changes positions by g: it ends where a result reaches the lower length
 --   delay_refusal, varispeed_refusal, start_refusal
 --                    what making a layer is refused by
---   delayed, slid    delay by k: s + k, and back
+--   shifted, shifted_back
+--                    a shift by n: x + n, and back
+--   delayed, slid    delay by k: a shift of samples
 --   scaled, reached  varispeed, in the timebase crate: s × a ÷ b rounded up, and back
---   started, begun   start at m: p + m, and back
+--   started, begun   start at m: a shift of positions
 --   pulled, pulled_back
 --                    2:3 pull-down: 5 × p ÷ 2 rounded down, and back
 -- Assumes nothing.
-use Rattle.std.specs.Prelude.{ℕ, ◌+◌, ◌-◌, ◌*◌, ◌/◌, ◌^◌, ◌≤◌, Bool, cond, leb, Some, None, Ok, Err, Option, Result, nat_le, nat_lt}
+use Rattle.std.specs.Prelude.{ℕ, ◌+◌, ◌-◌, ◌*◌, ◌/◌, ◌^◌, ◌≤◌, Bool, if◌then◌else◌, Some, None, Ok, Err, Option, Result, nat_le, nat_lt}
 use Rattle.refusal.specs.declared.Refusal.{Refusal}
 use Rattle.refusal.specs.declared.Refusal.TheVariants.{BadMaking, NoPosition}
 use Rattle.timebase.specs.Meaning.{Meaning, last_sample, tally}
@@ -27,10 +29,10 @@ Ahead g = (p : ℕ) → p ≤ g p
 
 abbrev pub on_samples : (ℕ → ℕ) → Meaning → Meaning
 on_samples g m =
-    record { len = tally (λ p. leb (g (m.rule p)) last_sample) m.len; rule = λ p. g (m.rule p) }
+    record { len = tally (λ p. nat_le (g (m.rule p)) last_sample) m.len; rule = λ p. g (m.rule p) }
 
 abbrev pub checked : (ℕ → ℕ) → Result ℕ Refusal → Result ℕ Refusal
-checked g (Ok s) = cond (nat_le (g s) last_sample) (Ok (g s)) (Err NoPosition)
+checked g (Ok s) = if nat_le (g s) last_sample then Ok (g s) else Err NoPosition
 checked g (Err e) = Err e
 
 -- no position past the lower length is counted, since g p is at least p
@@ -38,17 +40,23 @@ abbrev pub on_positions : (ℕ → ℕ) → Meaning → Meaning
 on_positions g m =
     record { len = tally (λ p. nat_lt (g p) m.len) m.len; rule = λ p. m.rule (g p) }
 
+abbrev pub shifted : ℕ → ℕ → ℕ
+shifted n x = x + n
+
+abbrev pub shifted_back : ℕ → ℕ → ℕ
+shifted_back n x = x - n
+
 abbrev pub delayed : ℕ → ℕ → ℕ
-delayed k s = s + k
+delayed = shifted
 
 abbrev pub slid : ℕ → ℕ → ℕ
-slid k s = s - k
+slid = shifted_back
 
 abbrev pub started : ℕ → ℕ → ℕ
-started m p = p + m
+started = shifted
 
 abbrev pub begun : ℕ → ℕ → ℕ
-begun m p = p - m
+begun = shifted_back
 
 abbrev pub pulled : ℕ → ℕ
 pulled p = 5 * p / 2
@@ -58,7 +66,7 @@ pulled_back p = (2 * p + 4) / 5
 
 -- a layer's numbers have to be in range
 abbrev pub made_if : Bool → Option Refusal
-made_if fits = cond fits None (Some BadMaking)
+made_if fits = if fits then None else Some BadMaking
 
 abbrev pub delay_refusal : ℕ → Option Refusal
 delay_refusal k = made_if (nat_le k last_sample)

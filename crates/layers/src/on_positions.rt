@@ -1,52 +1,35 @@
-// What the layers that change positions share: each only shows its g and the least argument that reaches.
-ghost use Rattle.std.specs.Prelude.{◌≡◌, ℕ, ◌^◌, ◌≤◌, min};
-ghost use Rattle.timebase.specs.Meaning.{Least, Agree, placed};
-ghost use Rattle.layers.specs.Layers.{Pair, Ahead, on_positions};
+// The layers that change positions: each is this one, at its change.
+ghost use Rattle.layers.specs.Layers.{on_positions};
+ghost use Rattle.layers.specs.Positions.{positions_sound};
 
+use crate::change::AheadChange;
 use refusal::Refusal;
 use timebase::base::{LAST_SAMPLE, Timebase};
 
-// A change of positions, never to one before; an argument past 2^36 counts as 2^36, the longest length.
-pub trait PositionMap {
-    ghost up: { Self → ℕ → ℕ };
-
-    ghost back: { Self → ℕ → ℕ };
-
-    fn up(&self, p: u64) -> u64
-        ensures { result ≡ up self.now (min p (2 ^ 36)) };
-
-    // The least position that is changed to p or more.
-    fn back(&self, p: u64) -> u64
-        ensures { result ≡ back self.now (min p (2 ^ 36)) };
-
-    ghost pair: { (g : Self) → Pair (up g) (back g) };
-
-    ghost ahead: { (g : Self) → Ahead (up g) };
+#[derive(Clone, Copy, Drop)]
+pub struct OnPositions<T, G> {
+    pub lower: T,
+    pub change: G,
 }
 
-pub fn length<T: Timebase, G: PositionMap>(lower: &T, map: &G) -> u64
-    ensures { result ≡ (on_positions (G.PositionMap.up map.now) (T.Timebase.meaning lower.now)).len }
-{
-    map.back(lower.len())
-}
+impl<T: Timebase, G: AheadChange> Timebase for OnPositions<T, G> {
+    ghost meaning = { λ t. on_positions (G.up t.change) (T.meaning t.lower) };
 
-pub fn place_changed<T: Timebase, G: PositionMap>(
-    lower: &T,
-    map: &G,
-    p: u64,
-) -> Result<u64, Refusal>
-    ensures { result ≡ placed (on_positions (G.PositionMap.up map.now) (T.Timebase.meaning lower.now)) p }
-{
-    // no timebase is longer than 2^36
-    if p > LAST_SAMPLE {
-        return Err(Refusal::NoPosition);
+    ghost sound = { λ t. positions_sound (G.pair t.change) (G.ahead t.change) (T.sound t.lower) };
+
+    fn len(&self) -> u64 {
+        self.change.back(self.lower.len())
     }
-    lower.place(map.up(p))
-}
 
-pub fn located<T: Timebase, G: PositionMap>(lower: &T, map: &G, s: u64) -> u64
-    ensures least { Least (on_positions (G.PositionMap.up map.now) (T.Timebase.meaning lower.now)) s result }
-    ensures agrees { Agree (on_positions (G.PositionMap.up map.now) (T.Timebase.meaning lower.now)) s result }
-{
-    map.back(lower.locate(s))
+    fn place(&self, p: u64) -> Result<u64, Refusal> {
+        // no timebase is longer than 2^36
+        if p > LAST_SAMPLE {
+            return Err(Refusal::NoPosition);
+        }
+        self.lower.place(self.change.up(p))
+    }
+
+    fn locate(&self, s: u64) -> u64 {
+        self.change.back(self.lower.locate(s))
+    }
 }

@@ -1,4 +1,4 @@
-pub mod Walk
+pub mod Tried
 pub mod Counting
 pub mod Held
-pub mod Answering
+pub mod Finding

@@ -1,40 +1,25 @@
--- The meter that is current at a tick, and that each bar is as long as the meter current at its line says.
+-- Each bar is as long as the meter current at its line says.
 -- Assumes nothing.
-use Rattle.std.specs.Prelude.{◌≡◌, ℕ, zero, suc, ◌+◌, ◌-◌, ◌*◌, ◌<◌, ◌≤◌, true, List, [], ◌∷◌, length, get_or, slice_index_or, refl}
+use Rattle.std.specs.Prelude.{◌≡◌, ℕ, ◌+◌, ◌-◌, ◌*◌, ◌<◌, ◌≤◌, true, List, [], ◌∷◌}
 use Rattle.std.proofs.Common.{sym, ◌∙◌, ap, inl, inr, arith, add-mul, mul-le-mul_right}
-use Rattle.std.proofs.lemmas.Bool.{cases_lt, cond-true, cond-false, lt-ltb, le-ltb}
+use Rattle.std.proofs.lemmas.Bool.{cases_lt}
+use Rattle.rows.specs.Current.{current_from}
+use Rattle.rows.proofs.Currents.{before_next, from_next}
+use Rattle.rows.proofs.Strict.{never_falls}
 use Rattle.meter.specs.Rules.{bar_of, all_kept}
-use Rattle.meter.specs.BarLines.{no_row, gap_of, bar_from, row_from}
+use Rattle.meter.specs.BarLines.{gap_of, bar_from, tick_of}
 use Rattle.meter.specs.declared.row.MeterRow.{MeterRow}
 use Rattle.meter.specs.Stretch.{Link, Parts, parts, inside, past}
-use Rattle.meter.specs.Rising.{starts, rises, rises_over}
-use Rattle.meter.specs.Places.{bars_le}
+use Rattle.meter.specs.Rising.{starts, rises}
 
-before_next : (r s : MeterRow) (rest : List MeterRow) (t : ℕ) → t < s.tick → row_from r (s ∷ rest) t ≡ r
-before_next r s rest t h = cond-true _ _ _ (lt-ltb t s.tick h)
-
-from_next : (r s : MeterRow) (rest : List MeterRow) (t : ℕ) → s.tick ≤ t → row_from r (s ∷ rest) t ≡ row_from s rest t
-from_next r s rest t h = cond-false _ _ _ (le-ltb t s.tick h)
-
-pub current_at : (d : ℕ) (r : MeterRow) (rest : List MeterRow) (i t : ℕ) → 1 ≤ d → all_kept d r rest ≡ true →
-    i < length (r ∷ rest) → (get_or (r ∷ rest) i no_row).tick ≤ t → (suc i < length (r ∷ rest) →
-    t < (get_or (r ∷ rest) (suc i) no_row).tick) → row_from r rest t ≡ slice_index_or (r ∷ rest) i no_row
-current_at d r [] zero t h k l a b = refl
-current_at d r (s ∷ rest) zero t h k l a b = before_next r s rest t (b (omega arith))
-current_at d r [] (suc i) t h k l a b = absurd (omega arith)
-current_at d r (s ∷ rest) (suc i) t h k l a b =
-    let ks : Parts d r s rest = parts d r s rest h k in
-    from_next r s rest t (omega (arith, bars_le d s rest i h ks.others (omega arith)))
-    ∙ current_at d s rest i t h ks.others (omega arith) a (λ l'. b (omega arith))
+abbrev row_from : MeterRow → List MeterRow → ℕ → MeterRow
+row_from r rest t = current_from tick_of r rest t
 
 -- no bar from a row on begins before the row
 not_before : (d : ℕ) (r : MeterRow) (rest : List MeterRow) (p : ℕ) → 1 ≤ d → all_kept d r rest ≡ true →
     r.tick ≤ bar_from d r rest p
 not_before d r rest p h k =
-    elim (cases_lt 0 p) [
-      | inl lt ↦ omega (arith, rises_over (bar_from d r rest) (λ q. rises d r rest q h k) 0 p lt, starts d r rest h k)
-      | inr z ↦ let e : p ≡ 0 = omega arith in omega (arith, ap (bar_from d r rest) e, starts d r rest h k)
-    ]
+    omega (arith, never_falls (bar_from d r rest) (λ q. rises d r rest q h k) 0 p (omega arith), starts d r rest h k)
 
 -- the line after bar p of a row, also where the next row begins there
 next_line : (d : ℕ) (r s : MeterRow) (rest : List MeterRow) (p : ℕ) → 1 ≤ d → all_kept d r (s ∷ rest) ≡ true →
@@ -65,7 +50,7 @@ follows d r (s ∷ rest) p h k =
     λ lt. let here = inside d r s rest p lt in
     let early : bar_from d r (s ∷ rest) p < s.tick =
     omega (arith, here, mul-le-mul_right (bar_of d r) (let f : p + 1 ≤ gap_of d r s = omega arith in f), add-mul p 1 (bar_of d r)) in
-    omega (arith, next_line d r s rest p h k lt, here, ap (bar_of d) (before_next r s rest (bar_from d r (s ∷ rest) p) early), add-mul p 1 (bar_of d r)) in
+    omega (arith, next_line d r s rest p h k lt, here, ap (bar_of d) (before_next tick_of r s rest (bar_from d r (s ∷ rest) p) early), add-mul p 1 (bar_of d r)) in
     let beyond : gap_of d r s ≤ p →
     bar_from d r (s ∷ rest) (p + 1) ≡ bar_from d r (s ∷ rest) p + bar_of d (row_from r (s ∷ rest) (bar_from d r (s ∷ rest) p)) =
     λ ge. let z : p + 1 - gap_of d r s ≡ q + 1 = omega arith in
@@ -73,5 +58,5 @@ follows d r (s ∷ rest) p h k =
     let late : s.tick ≤ bar_from d r (s ∷ rest) p = omega (arith, here, not_before d s rest q h ks.others) in
     past d r s rest (p + 1) (omega arith) ∙ (ap (bar_from d s rest) z ∙ (follows d s rest q h ks.others
     ∙ (ap (λ x. x + bar_of d (row_from s rest x)) (sym here)
-    ∙ ap (λ x. bar_from d r (s ∷ rest) p + bar_of d x) (sym (from_next r s rest (bar_from d r (s ∷ rest) p) late))))) in
+    ∙ ap (λ x. bar_from d r (s ∷ rest) p + bar_of d x) (sym (from_next tick_of r s rest (bar_from d r (s ∷ rest) p) late))))) in
     elim (cases_lt p (gap_of d r s)) [ inl lt ↦ within lt | inr ge ↦ beyond ge ]

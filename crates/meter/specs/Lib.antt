@@ -1,5 +1,6 @@
 pub mod Rules
 pub mod BarLines
+pub mod Counted
 pub mod Tables
 pub mod Lies
 pub mod Lines

@@ -4,32 +4,22 @@
 --   table_lines    the law of bar lines
 --   table_ahead    no bar begins before the tick of its own number
 -- Assumes nothing.
-use Rattle.std.specs.Prelude.{◌≡◌, ℕ, ◌+◌, ◌<◌, ◌≤◌, Bool, nat_lt}
+use Rattle.std.specs.Prelude.{◌≡◌, ℕ, ◌≤◌, Bool, nat_lt}
 use Rattle.std.proofs.Common.{sym, ap, inl, inr, arith}
 use Rattle.std.proofs.lemmas.Bool.{cases_lt, lt-ltb, le-ltb, ltb-true, ltb-false}
 use Rattle.timebase.specs.Meaning.{tally}
 use Rattle.timebase.specs.Tally.{Cut, Falls, tally_cut, tally_cuts}
 use Rattle.layers.specs.Layers.{Pair, Ahead}
+use Rattle.rows.proofs.Strict.{Strict, never_falls, stays_above}
 use Rattle.meter.specs.BarLines.{FirstAt}
 use Rattle.meter.specs.Tables.{rows_of, bar_tick, bars_to, Lines}
 use Rattle.meter.specs.declared.table.MeterTable.{MeterTable}
-use Rattle.meter.specs.Rising.{rises_over, stays_above}
 use Rattle.meter.specs.Found.{lines_start, lines_rise, lines_follow}
-
-abbrev pub Rises : (ℕ → ℕ) → Type 0
-Rises f = (p : ℕ) → f p < f (p + 1)
 
 abbrev begun : (ℕ → ℕ) → ℕ → ℕ
 begun f t = tally (λ p. nat_lt (f p) t) t
 
-never_falls : (f : ℕ → ℕ) → Rises f → (p q : ℕ) → p ≤ q → f p ≤ f q
-never_falls f up p q h =
-    elim (cases_lt p q) [
-      | inl lt ↦ omega (arith, rises_over f up p q lt)
-      | inr ge ↦ let e : p ≡ q = omega arith in omega (arith, ap f e)
-    ]
-
-pub first_counted : (f : ℕ → ℕ) → Rises f → (t r : ℕ) → FirstAt f t r → r ≡ begun f t
+pub first_counted : (f : ℕ → ℕ) → Strict f → (t r : ℕ) → FirstAt f t r → r ≡ begun f t
 first_counted f up t r w =
     let test : ℕ → Bool = λ p. nat_lt (f p) t in
     let early : r ≤ t = elim (cases_lt t r) [ inl lt ↦ omega (arith, w.before t lt, stays_above f up t) | inr le ↦ le ] in
@@ -41,7 +31,7 @@ first_counted f up t r w =
     } in
     sym (tally_cut test r t cut)
 
-pub counted_first : (f : ℕ → ℕ) → Rises f → (t : ℕ) → FirstAt f t (begun f t)
+pub counted_first : (f : ℕ → ℕ) → Strict f → (t : ℕ) → FirstAt f t (begun f t)
 counted_first f up t =
     let test : ℕ → Bool = λ p. nat_lt (f p) t in
     let falls : Falls test t =
@@ -56,14 +46,14 @@ counted_first f up t =
       before = λ p h. ltb-true (f p) t (cut.passes p h);
     }
 
-pub rising_pair : (f : ℕ → ℕ) → Rises f → Pair f (begun f)
+pub rising_pair : (f : ℕ → ℕ) → Strict f → Pair f (begun f)
 rising_pair f up =
     record {
       reaches = λ s t h. elim (cases_lt t (begun f s)) [ inl lt ↦ omega (arith, (counted_first f up s).before t lt) | inr le ↦ le ];
       reached = λ s t h. omega (arith, never_falls f up (begun f s) t h, (counted_first f up s).reaches);
     }
 
-pub table_rises : (m : MeterTable) → Rises (bar_tick m)
+pub table_rises : (m : MeterTable) → Strict (bar_tick m)
 table_rises m p = lines_rise m.division (rows_of m) p m.lawful
 
 pub table_pair : (m : MeterTable) → Pair (bar_tick m) (bars_to m)

@@ -1,11 +1,12 @@
 -- A bar and a tick looked up by the row in which they lie.
 -- Assumes nothing.
-use Rattle.std.specs.Prelude.{◌≡◌, ℕ, zero, suc, ◌+◌, ◌-◌, ◌*◌, ◌/◌, ◌%◌, ◌<◌, ◌≤◌, min, true, List, [], ◌∷◌, length, get_or, slice_index_or}
-use Rattle.std.proofs.Common.{sym, ◌∙◌, ap, subst, inl, inr, arith, mul-le-mul_left, mul-le-mul_right, mul-lt-mul_of_pos_right, add-mul, zero-add}
-use Rattle.std.proofs.lemmas.Nat.{div-add-mod', mod_below}
+use Rattle.std.specs.Prelude.{◌≡◌, ℕ, zero, suc, ◌+◌, ◌-◌, ◌*◌, ◌<◌, ◌≤◌, true, List, [], ◌∷◌, length, slice_index_or}
+use Rattle.std.proofs.Common.{sym, ◌∙◌, ap, subst, inl, inr, arith, mul-le-mul_right, add-mul, zero-add}
 use Rattle.std.proofs.lemmas.Bool.{cases_lt}
+use Rattle.rows.specs.Sums.{sum_from}
+use Rattle.rows.proofs.Ceiling.{Fewest}
 use Rattle.meter.specs.Rules.{bar_of, all_kept}
-use Rattle.meter.specs.BarLines.{no_row, gap_of, bar_from, bars_from, FirstAt}
+use Rattle.meter.specs.BarLines.{no_row, gap_of, bar_from, FirstAt}
 use Rattle.meter.specs.declared.row.MeterRow.{MeterRow}
 use Rattle.meter.specs.Stretch.{Link, Parts, parts, inside, past}
 use Rattle.meter.specs.Rising.{starts}
@@ -13,51 +14,24 @@ use Rattle.meter.specs.Places.{bars_le}
 
 -- bar p lies in row i: it begins so many bars after the row's tick
 pub bar_at : (d : ℕ) (r : MeterRow) (rest : List MeterRow) (i p : ℕ) → i < length (r ∷ rest) →
-    bars_from d r rest i ≤ p → (suc i < length (r ∷ rest) → p < bars_from d r rest (suc i)) →
-    bar_from d r rest p ≡ (get_or (r ∷ rest) i no_row).tick + (p - bars_from d r rest i) * bar_of d (slice_index_or (r ∷ rest) i no_row)
+    sum_from (gap_of d) r rest i ≤ p → (suc i < length (r ∷ rest) → p < sum_from (gap_of d) r rest (suc i)) →
+    bar_from d r rest p ≡ (slice_index_or (r ∷ rest) i no_row).tick + (p - sum_from (gap_of d) r rest i) * bar_of d (slice_index_or (r ∷ rest) i no_row)
 bar_at d r [] zero p l a b = ap (λ x. r.tick + x * bar_of d r) (omega arith)
 bar_at d r (s ∷ rest) zero p l a b =
     inside d r s rest p (omega (arith, b (omega arith))) ∙ ap (λ x. r.tick + x * bar_of d r) (omega arith)
 bar_at d r [] (suc i) p l a b = absurd (omega arith)
 bar_at d r (s ∷ rest) (suc i) p l a b =
-    let m : MeterRow = get_or (s ∷ rest) i no_row in
+    let m : MeterRow = slice_index_or (s ∷ rest) i no_row in
     past d r s rest p (omega arith)
     ∙ bar_at d s rest i (p - gap_of d r s) (omega arith) (omega arith) (λ l'. omega (arith, b (omega arith)))
     ∙ ap (λ x. m.tick + x * bar_of d m) (omega arith)
 
--- c bars of b ticks are the least that reach x ticks
-pub record Fewest (x b c : ℕ) : Type 0 where
-  pub enough : x ≤ c * b
-  pub fewer : (q : ℕ) → q < c → q * b < x
-
--- a quotient rounded up is the fewest
-pub fewest : (x b : ℕ) → 1 ≤ b → Fewest x b (x / b + min 1 (x % b))
-fewest x b h =
-    let parts_of : x / b * b + x % b ≡ x = div-add-mod' x b in
-    let below : x % b < b = mod_below x b h in
-    let even : x % b ≡ 0 → Fewest x b (x / b + min 1 (x % b)) =
-    λ z. subst (Fewest x b) (let e : x / b ≡ x / b + min 1 (x % b) = omega arith in e) record {
-      enough = omega arith;
-      fewer = λ q lt. omega (arith, mul-lt-mul_of_pos_right lt h);
-    } in
-    let odd : 0 < x % b → Fewest x b (x / b + min 1 (x % b)) =
-    λ z. subst (Fewest x b) (let e : x / b + 1 ≡ x / b + min 1 (x % b) = omega arith in e) record {
-      enough = omega (arith, add-mul (x / b) 1 b);
-      fewer = λ q lt. omega (arith, mul-le-mul_right b (let f : q ≤ x / b = omega arith in f));
-    } in
-    elim (cases_lt 0 (x % b)) [ inl some ↦ odd some | inr none ↦ even (omega arith) ]
-
--- no more bars than ticks
-pub fewest_le : (x b c : ℕ) → 1 ≤ b → Fewest x b c → c ≤ x
-fewest_le x b c h w =
-    elim (cases_lt x c) [ inl more ↦ omega (arith, w.fewer x more, mul-le-mul_left x h) | inr le ↦ le ]
-
 -- tick t lies in row i: the first bar at or after it is so many bars after the row's first
 pub reach_at : (d : ℕ) (r : MeterRow) (rest : List MeterRow) (i t c : ℕ) → 1 ≤ d → all_kept d r rest ≡ true →
-    i < length (r ∷ rest) → (get_or (r ∷ rest) i no_row).tick ≤ t → (suc i < length (r ∷ rest) →
-    t < (get_or (r ∷ rest) (suc i) no_row).tick) →
-    Fewest (t - (get_or (r ∷ rest) i no_row).tick) (bar_of d (slice_index_or (r ∷ rest) i no_row)) c →
-    FirstAt (bar_from d r rest) t (bars_from d r rest i + c)
+    i < length (r ∷ rest) → (slice_index_or (r ∷ rest) i no_row).tick ≤ t → (suc i < length (r ∷ rest) →
+    t < (slice_index_or (r ∷ rest) (suc i) no_row).tick) →
+    Fewest (t - (slice_index_or (r ∷ rest) i no_row).tick) (bar_of d (slice_index_or (r ∷ rest) i no_row)) c →
+    FirstAt (bar_from d r rest) t (sum_from (gap_of d) r rest i + c)
 reach_at d r [] zero t c h k l a b w =
     subst (FirstAt (bar_from d r []) t) (sym (zero-add c)) record {
       reaches = omega (arith, w.enough);
@@ -82,10 +56,10 @@ reach_at d r [] (suc i) t c h k l a b w = absurd (omega arith)
 reach_at d r (s ∷ rest) (suc i) t c h k l a b w =
     let ks : Parts d r s rest = parts d r s rest h k in
     let j : Link d r s = ks.joint in
-    let m : ℕ = bars_from d s rest i + c in
+    let m : ℕ = sum_from (gap_of d) s rest i + c in
     let ih : FirstAt (bar_from d s rest) t m =
     reach_at d s rest i t c h ks.others (omega arith) a (λ l'. b (omega arith)) w in
-    let e : gap_of d r s + bars_from d s rest i + c - gap_of d r s ≡ m = omega arith in
+    let e : gap_of d r s + sum_from (gap_of d) s rest i + c - gap_of d r s ≡ m = omega arith in
     let low : (p : ℕ) → p < gap_of d r s → bar_from d r (s ∷ rest) p < t =
     λ p lt. omega (
       arith,
@@ -95,7 +69,7 @@ reach_at d r (s ∷ rest) (suc i) t c h k l a b w =
       add-mul p 1 (bar_of d r),
     ) in
     record {
-      reaches = omega (arith, past d r s rest (gap_of d r s + bars_from d s rest i + c) (omega arith), ap (bar_from d s rest) e, ih.reaches);
+      reaches = omega (arith, past d r s rest (gap_of d r s + sum_from (gap_of d) s rest i + c) (omega arith), ap (bar_from d s rest) e, ih.reaches);
       before = λ p lt. elim (cases_lt p (gap_of d r s)) [
         | inl in_row ↦ low p in_row
         | inr ge ↦ omega (arith, past d r s rest p ge, ih.before (p - gap_of d r s) (omega arith))

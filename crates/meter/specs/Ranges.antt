@@ -5,7 +5,7 @@ use Rattle.std.proofs.Common.{inl, inr, div-le_self, arith}
 use Rattle.std.proofs.lemmas.Nat.{mul-le, div-add-mod'}
 use Rattle.std.proofs.lemmas.Bool.{cases_lt}
 use Rattle.std.proofs.lemmas.Bool.Decides.{nat_tests}
-use Rattle.meter.specs.Rules.{bar_of, row_kept}
+use Rattle.meter.specs.Rules.{beat_of, bar_of, row_kept}
 use Rattle.meter.specs.declared.row.MeterRow.{MeterRow}
 
 pub record InRange (division : ℕ) (r : MeterRow) : Type 0 where
@@ -33,10 +33,10 @@ beat_pos n m h z =
 pub bar_pos : (division : ℕ) (r : MeterRow) → 1 ≤ division → row_kept division r ≡ true → 1 ≤ bar_of division r
 bar_pos division r d h =
     let i : InRange division r = in_range division r h in
-    let beat : 1 ≤ 4 * division / 2 ^ r.dd = beat_pos (4 * division) (2 ^ r.dd) (omega arith) i.whole in
-    omega (arith, mul-le 1 1 r.nn (4 * division / 2 ^ r.dd) i.some_beats beat)
+    let beat : 1 ≤ beat_of division r = beat_pos (4 * division) (2 ^ r.dd) (omega arith) i.whole in
+    omega (arith, mul-le 1 1 r.nn (beat_of division r) i.some_beats beat)
 
 pub bar_below : (division : ℕ) (r : MeterRow) → division ≤ 32767 → r.nn ≤ 64 → bar_of division r ≤ 8388352
 bar_below division r d n =
-    let beat : 4 * division / 2 ^ r.dd ≤ 131068 = omega (arith, div-le_self (4 * division) (2 ^ r.dd)) in
-    omega (arith, mul-le r.nn (4 * division / 2 ^ r.dd) 64 131068 n beat)
+    let beat : beat_of division r ≤ 131068 = omega (arith, div-le_self (4 * division) (2 ^ r.dd)) in
+    omega (arith, mul-le r.nn (beat_of division r) 64 131068 n beat)

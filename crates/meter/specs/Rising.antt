@@ -1,8 +1,8 @@
 -- The ticks of bar lines rise strictly, from the first row's.
 -- Assumes nothing.
-use Rattle.std.specs.Prelude.{◌≡◌, ℕ, zero, suc, ◌+◌, ◌-◌, ◌*◌, ◌<◌, ◌≤◌, true, List, [], ◌∷◌}
-use Rattle.std.proofs.Common.{◌∙◌, ap, inl, inr, add-mul, add-one, arith}
-use Rattle.std.proofs.lemmas.Bool.{cases_lt, cases_order}
+use Rattle.std.specs.Prelude.{◌≡◌, ℕ, ◌+◌, ◌-◌, ◌*◌, ◌<◌, ◌≤◌, true, List, [], ◌∷◌}
+use Rattle.std.proofs.Common.{◌∙◌, ap, inl, inr, add-mul, arith}
+use Rattle.std.proofs.lemmas.Bool.{cases_order}
 use Rattle.meter.specs.Rules.{bar_of, all_kept}
 use Rattle.meter.specs.BarLines.{gap_of, bar_from}
 use Rattle.meter.specs.declared.row.MeterRow.{MeterRow}
@@ -48,16 +48,3 @@ rises d r (s ∷ rest) p h k =
       | inl e ↦ across e
       | inr o ↦ elim o [ inl lt ↦ within lt | inr gt ↦ beyond (omega arith) ]
     ]
-
--- what rises at each step rises over any, and by one at least each time
-pub rises_over : (f : ℕ → ℕ) → ((p : ℕ) → f p < f (p + 1)) → (p q : ℕ) → p < q → f p < f q
-rises_over f up p zero h = absurd (omega arith)
-rises_over f up p (suc q) h =
-    elim (cases_lt p q) [
-      | inl lt ↦ omega (arith, rises_over f up p q lt, up q, ap f (add-one q))
-      | inr ge ↦ let e : p ≡ q = omega arith in omega (arith, up q, ap f (add-one q), ap f e)
-    ]
-
-pub stays_above : (f : ℕ → ℕ) → ((p : ℕ) → f p < f (p + 1)) → (p : ℕ) → p ≤ f p
-stays_above f up zero = omega arith
-stays_above f up (suc p) = omega (arith, stays_above f up p, up p, ap f (add-one p))

@@ -6,16 +6,17 @@
 --   Lines     the law of bar lines: they begin at tick 0, each lies a bar of its current meter after the one before,
 --             and the bars begun before a tick are back of them
 -- Assumes nothing.
-use Rattle.std.specs.Prelude.{◌≡◌, ℕ, ◌+◌, ◌≤◌, true, false, List, take, Ok, Err, Result}
+use Rattle.std.specs.Prelude.{◌≡◌, ℕ, ◌+◌, ◌≤◌, true, false, List, Ok, Err, Result}
 use Rattle.refusal.specs.declared.Refusal.{Refusal}
 use Rattle.refusal.specs.declared.Refusal.TheVariants.{BadMaking}
 use Rattle.meter.specs.Rules.{bar_of, kept}
 use Rattle.meter.specs.BarLines.{bar_start, bars_begun, row_at}
+use Rattle.meter.specs.Counted.{rows_in}
 use Rattle.meter.specs.declared.row.MeterRow.{MeterRow}
 use Rattle.meter.specs.declared.table.MeterTable.{MeterTable}
 
 abbrev pub rows_of : MeterTable → List MeterRow
-rows_of m = take m.len m.rows
+rows_of m = rows_in m.len m.rows
 
 abbrev pub Making : ℕ → List MeterRow → Result MeterTable Refusal → Type 0
 Making division rows (Ok m) = (kept division rows ≡ true) × (m.division ≡ division) × (rows_of m ≡ rows)

@@ -1,15 +1,15 @@
 -- A whole lawful table: what its rows are by place, where its bars begin, and how a bar and a tick are looked up.
 -- Assumes nothing.
-use Rattle.std.specs.Prelude.{◌≡◌, ℕ, suc, ◌+◌, ◌<◌, ◌≤◌, true, ◌&&◌, List, [], ◌∷◌, length, get_or, ◌==◌, nat_le, slice_index_or}
+use Rattle.std.specs.Prelude.{◌≡◌, ℕ, ◌+◌, ◌<◌, ◌≤◌, true, ◌&&◌, List, [], ◌∷◌, length, ◌==◌, nat_le, slice_index_or}
 use Rattle.std.proofs.Common.{arith, add-one}
 use Rattle.std.proofs.lemmas.Bool.{and_parts}
 use Rattle.std.proofs.lemmas.Bool.Decides.{nat_tests}
+use Rattle.rows.proofs.Adding.{sum_after}
 use Rattle.meter.specs.Rules.{bar_of, row_kept, all_kept, kept}
 use Rattle.meter.specs.BarLines.{no_row, gap_of, bars_before}
 use Rattle.meter.specs.declared.row.MeterRow.{MeterRow}
 use Rattle.meter.specs.Ranges.{InRange, in_range, bar_pos, bar_below}
-use Rattle.meter.specs.Stretch.{Link}
-use Rattle.meter.specs.Places.{row_at, link_at, bars_step, bars_le}
+use Rattle.meter.specs.Places.{row_at, link_at, bars_le}
 
 -- the rules of a whole table, one by one
 pub record Lawful (d : ℕ) (r : MeterRow) (rest : List MeterRow) : Type 0 where
@@ -34,10 +34,11 @@ pub record Placed (d : ℕ) (rows : List MeterRow) (i : ℕ) : Type 0 where
   pub low : 1 ≤ d
   pub high : d ≤ 32767
   pub few : length rows ≤ 64
+  pub ok : row_kept d (slice_index_or rows i no_row) ≡ true
   pub range : InRange d (slice_index_or rows i no_row)
   pub bar : 1 ≤ bar_of d (slice_index_or rows i no_row)
   pub short : bar_of d (slice_index_or rows i no_row) ≤ 8388352
-  pub bars : bars_before d rows i ≤ (get_or rows i no_row).tick
+  pub bars : bars_before d rows i ≤ (slice_index_or rows i no_row).tick
 
 pub placed_at : (d : ℕ) (rows : List MeterRow) (i : ℕ) → kept d rows ≡ true → i < length rows → Placed d rows i
 placed_at d [] i k l = absurd (omega arith)
@@ -49,6 +50,7 @@ placed_at d (r ∷ rest) i k l =
       low = w.low;
       high = w.high;
       few = w.few;
+      ok = ok;
       range = range;
       bar = bar_pos d (slice_index_or (r ∷ rest) i no_row) w.low ok;
       short = bar_below d (slice_index_or (r ∷ rest) i no_row) w.high range.few_beats;
@@ -57,21 +59,17 @@ placed_at d (r ∷ rest) i k l =
 
 -- a row and the next by their places
 pub record Linked (d : ℕ) (rows : List MeterRow) (i : ℕ) : Type 0 where
-  pub later : (get_or rows i no_row).tick < (get_or rows (i + 1) no_row).tick
+  pub later : (slice_index_or rows i no_row).tick < (slice_index_or rows (i + 1) no_row).tick
   pub sum : bars_before d rows (i + 1) ≡ bars_before d rows i + gap_of d (slice_index_or rows i no_row) (slice_index_or rows (i + 1) no_row)
 
-linked_suc : (d : ℕ) (rows : List MeterRow) (i : ℕ) → kept d rows ≡ true → suc i < length rows →
-    ((get_or rows i no_row).tick < (get_or rows (suc i) no_row).tick) × (bars_before d rows (suc i) ≡ bars_before d rows i + gap_of d (slice_index_or rows i no_row) (slice_index_or rows (suc i) no_row))
-linked_suc d [] i k l = absurd (omega arith)
-linked_suc d (r ∷ rest) i k l =
-    let w : Lawful d r rest = lawful d r rest k in
-    let j : Link d (slice_index_or (r ∷ rest) i no_row) (slice_index_or (r ∷ rest) (suc i) no_row) = link_at d r rest i w.low w.all l in
-    (j.later, bars_step d r rest i l)
-
 pub linked_at : (d : ℕ) (rows : List MeterRow) (i : ℕ) → kept d rows ≡ true → i + 1 < length rows → Linked d rows i
-linked_at d rows i k l =
-    let both = linked_suc d rows i k (omega arith) in
-    record { later = rw add-one both.0; sum = rw add-one both.1 }
+linked_at d [] i k l = absurd (omega arith)
+linked_at d (r ∷ rest) i k l =
+    let w : Lawful d r rest = lawful d r rest k in
+    record {
+      later = rw add-one (link_at d r rest i w.low w.all (omega arith)).later;
+      sum = sum_after (gap_of d) (r ∷ rest) i no_row l;
+    }
 
 pub few_rows : (d : ℕ) (rows : List MeterRow) → kept d rows ≡ true → length rows ≤ 64
 few_rows d [] k = omega arith

@@ -2,6 +2,7 @@
 #![tactic(auto)]
 
 pub mod bars;
+mod beats;
 pub mod row;
 mod rules;
 pub mod table;

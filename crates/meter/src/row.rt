@@ -5,3 +5,10 @@ pub struct MeterRow {
     pub nn: u8,
     pub dd: u8,
 }
+
+// A row as a table keeps it, with how many bars lie before it.
+#[derive(Clone, Copy)]
+pub(crate) struct CountedRow {
+    pub(crate) row: MeterRow,
+    pub(crate) before: u32,
+}

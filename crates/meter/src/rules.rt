@@ -1,76 +1,43 @@
 // The rules of a meter table, tried row by row.
-ghost use Rattle.std.specs.Prelude.{◌≡◌, ◌^◌, ◌<◌, ◌≤◌, true};
-ghost use Rattle.meter.specs.Rules.{beat_of, bar_of, row_kept, next_kept, all_kept, kept};
+ghost use Rattle.std.specs.Prelude.{◌≡◌, ◌&&◌, drop};
+ghost use Rattle.std.specs.List.{list_all, zip};
+ghost use Rattle.meter.specs.Rules.{meter_kept, next_kept, kept};
 
+use crate::beats::Meter;
 use crate::row::MeterRow;
 
-const LAST_TICK: u32 = 1_073_741_823;
-
-fn denominator(dd: u8) -> u32
-    requires { dd ≤ 6 }
-    ensures { result ≡ 2 ^ dd }
+// Whether a row is in range, and the next lies on a bar line of it.
+fn joined(division: u32, row: MeterRow, next: MeterRow) -> bool
+    ensures { result ≡ (meter_kept division row && next_kept division row next) }
 {
-    1 << dd
+    Meter::new(division, row).is_some_and(|meter| meter.joins(next))
 }
 
-// The ticks of a beat.
-pub(crate) fn beat_ticks(division: u32, row: MeterRow) -> u32
-    requires { (division ≤ 32767) × (row.dd ≤ 6) }
-    ensures { result ≡ beat_of division row }
+// Whether each row is in range, at a division that is.
+fn each_kept(division: u32, rows: &[MeterRow]) -> bool
+    ensures { result ≡ list_all (λ row. meter_kept division row) rows.now }
 {
-    let whole = 4 * division;
-    whole / denominator(row.dd)
+    rows.iter().all(|row| Meter::new(division, *row).is_some())
 }
 
-// The ticks of a bar.
-pub(crate) fn bar_ticks(division: u32, row: MeterRow) -> u32
-    requires { (division ≤ 32767) × ((row.nn ≤ 64) × (row.dd ≤ 6)) }
-    ensures { result ≡ bar_of division row }
+// Whether each row is joined to the one after it.
+fn each_joined(division: u32, rows: &[MeterRow]) -> bool
+    ensures { result ≡ list_all (λ pair. meter_kept division pair.0 && next_kept division pair.0 pair.1) (zip rows.now (drop 1 rows.now)) }
 {
-    u32::from(row.nn) * (4 * division / denominator(row.dd))
-}
-
-fn row_kept(division: u32, row: MeterRow) -> bool
-    requires { division ≤ 32767 }
-    ensures { result ≡ row_kept division row }
-{
-    1 <= row.nn
-        && row.nn <= 64
-        && row.dd <= 6
-        && 4 * division % denominator(row.dd) == 0
-        && row.tick <= LAST_TICK
-}
-
-fn next_kept(division: u32, row: MeterRow, next: MeterRow) -> bool
-    requires { (1 ≤ division) × ((division ≤ 32767) × (row_kept division row ≡ true)) }
-    ensures { result ≡ next_kept division row next }
-{
-    row.tick < next.tick && (next.tick - row.tick) % bar_ticks(division, row) == 0
-}
-
-fn all_kept(division: u32, first: MeterRow, rest: &[MeterRow]) -> bool
-    requires { (1 ≤ division) × (division ≤ 32767) }
-    ensures { result ≡ all_kept division first rest.now }
-{
-    let mut row = first;
-    for next in rest {
-        if !row_kept(division, row) || !next_kept(division, row, *next) {
-            return false;
-        }
-        row = *next;
-    }
-    row_kept(division, row)
+    rows.iter()
+        .zip(rows.iter().skip(1))
+        .all(|(row, next)| joined(division, *row, *next))
 }
 
 // Whether a table of these rows keeps every rule.
 pub(crate) fn keeps_rules(division: u32, rows: &[MeterRow]) -> bool
     ensures { result ≡ kept division rows.now }
 {
-    let [first, rest @ ..] = rows else {
+    let [first, ..] = rows else {
         return false;
     };
-    if division < 1 || division > 32_767 || rows.len() > 64 || first.tick != 0 {
+    if rows.len() > 64 || first.tick != 0 {
         return false;
     }
-    all_kept(division, *first, rest)
+    each_kept(division, rows) && each_joined(division, rows)
 }

@@ -1,16 +1,18 @@
 -- The bytes of each answer.
---   answer_text   the line that says an answer, ended by byte 10
+--   answer_text   the line that says an answer, or why there is none, ended by byte 10
 -- Assumes nothing.
-use Rattle.std.specs.Prelude.{ℕ, List, [], ◌∷◌, ◌++◌, codes}
+use Rattle.std.specs.Prelude.{ℕ, List, [], ◌∷◌, ◌++◌, Ok, Err, Result, codes}
 use Rattle.refusal.specs.Numbers.{number_of}
 use Rattle.text.specs.Decimal.{digits}
 use Rattle.operator.specs.declared.answer.Answer.{Answer}
-use Rattle.operator.specs.declared.answer.Answer.TheVariants.{Done, Lines, Sample, Position, Refused, Unreadable}
+use Rattle.operator.specs.declared.answer.Answer.TheVariants.{Done, Lines, Sample, Position}
+use Rattle.operator.specs.declared.answer.Fault.{Fault}
+use Rattle.operator.specs.declared.answer.Fault.TheVariants.{Unreadable, Refused}
 
-abbrev pub answer_text : Answer → List ℕ
-answer_text Done = codes "ok" ++ (10 ∷ [])
-answer_text (Lines n) = codes "ok " ++ (digits n ++ (10 ∷ []))
-answer_text (Sample n) = digits n ++ (10 ∷ [])
-answer_text (Position n) = digits n ++ (10 ∷ [])
-answer_text (Refused why) = codes "refused " ++ (digits (number_of why) ++ (10 ∷ []))
-answer_text Unreadable = codes "unreadable" ++ (10 ∷ [])
+abbrev pub answer_text : Result Answer Fault → List ℕ
+answer_text (Ok Done) = codes "ok" ++ (10 ∷ [])
+answer_text (Ok (Lines n)) = codes "ok " ++ (digits n ++ (10 ∷ []))
+answer_text (Ok (Sample n)) = digits n ++ (10 ∷ [])
+answer_text (Ok (Position n)) = digits n ++ (10 ∷ [])
+answer_text (Err (Refused why)) = codes "refused " ++ (digits (number_of why) ++ (10 ∷ []))
+answer_text (Err Unreadable) = codes "unreadable" ++ (10 ∷ [])

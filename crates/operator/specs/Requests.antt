@@ -1,6 +1,6 @@
 -- What a line asks, by its words, and the text of each request.
 --   Said                   a request with its numbers and the bytes of its label
---   said                   what a request of the code stands for
+--   said                   what a request of the code, or none, stands for
 --   says                   what a line without its line end asks
 --   asks                   what a line asks, with its line end or without
 --   request_text           the line that makes a request
@@ -10,6 +10,7 @@
 -- Assumes nothing.
 use Rattle.std.specs.Prelude.{◌≡◌, ℕ, ◌^◌, ◌<◌, true, cond, List, [], ◌∷◌, ◌++◌, length, Some, None, codes, Option, ◌≢◌}
 use Rattle.std.specs.List.{AllByRecursion}
+use Rattle.std.specs.Option.{option_map_or}
 use Rattle.text.specs.Decimal.{digits, plain}
 use Rattle.operator.specs.declared.request.Verb.{Verb}
 use Rattle.operator.specs.declared.request.Verb.TheVariants as verb
@@ -27,15 +28,15 @@ pub data Said : Type 0 where
   logs : Said
   nothing : Said
 
-abbrev pub said : Request → Said
-said (request.Add n label) = adds n label.now
-said (request.Strike n) = strikes n
-said (request.Seek n) = seeks n
-said (request.Play n) = plays n
-said (request.Place n) = places n
-said (request.Locate n) = locates n
-said request.Log = logs
-said request.Unreadable = nothing
+abbrev pub said : Option Request → Said
+said (Some (request.Add n label)) = adds n label.now
+said (Some (request.Strike n)) = strikes n
+said (Some (request.Seek n)) = seeks n
+said (Some (request.Play n)) = plays n
+said (Some (request.Place n)) = places n
+said (Some (request.Locate n)) = locates n
+said (Some request.Log) = logs
+said None = nothing
 
 abbrev pub one_word : Verb → Said
 one_word verb.Add = nothing
@@ -45,7 +46,6 @@ one_word verb.Play = nothing
 one_word verb.Place = nothing
 one_word verb.Locate = nothing
 one_word verb.Log = logs
-one_word verb.Unknown = nothing
 
 -- a verb and a word that may be a number
 abbrev pub two_words : Option ℕ → Verb → Said
@@ -57,7 +57,6 @@ two_words (Some n) verb.Play = plays n
 two_words (Some n) verb.Place = places n
 two_words (Some n) verb.Locate = locates n
 two_words (Some n) verb.Log = nothing
-two_words (Some n) verb.Unknown = nothing
 
 abbrev pub labelled : Option ℕ → List ℕ → Said
 labelled None label = nothing
@@ -73,13 +72,12 @@ three_words verb.Play number label = nothing
 three_words verb.Place number label = nothing
 three_words verb.Locate number label = nothing
 three_words verb.Log number label = nothing
-three_words verb.Unknown number label = nothing
 
 abbrev pub by_words : List (List ℕ) → Said
 by_words [] = nothing
-by_words (v ∷ []) = one_word (verb_of v)
-by_words (v ∷ w ∷ []) = two_words (plain w) (verb_of v)
-by_words (v ∷ w ∷ label ∷ []) = three_words (verb_of v) (plain w) label
+by_words (v ∷ []) = option_map_or one_word (verb_of v) nothing
+by_words (v ∷ w ∷ []) = option_map_or (two_words (plain w)) (verb_of v) nothing
+by_words (v ∷ w ∷ label ∷ []) = option_map_or (λ verb. three_words verb (plain w) label) (verb_of v) nothing
 by_words (v ∷ w ∷ label ∷ x ∷ more) = nothing
 
 abbrev pub says : List ℕ → Said

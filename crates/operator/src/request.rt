@@ -10,7 +10,6 @@ pub enum Verb {
     Place,
     Locate,
     Log,
-    Unknown,
 }
 
 #[derive(Clone, Copy)]
@@ -22,5 +21,4 @@ pub enum Request<'a> {
     Place { position: u64 },
     Locate { sample: u64 },
     Log,
-    Unreadable,
 }

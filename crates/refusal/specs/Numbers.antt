@@ -1,7 +1,9 @@
 -- The number of each refusal, as operators read it.
---   number_of   the number that a refusal is answered by
+--   number_of      the number that a refusal is answered by
+--   refused_text   the bytes that a refusal is printed as
 -- Assumes nothing.
-use Rattle.std.specs.Prelude.{ℕ}
+use Rattle.std.specs.Prelude.{ℕ, List, ◌++◌, codes}
+use Rattle.std.specs.Fmt.{decimal}
 use Rattle.refusal.specs.declared.Refusal.{Refusal}
 use Rattle.refusal.specs.declared.Refusal.TheVariants.{ShortBuffer, BadMaking, TapsFall, RatioTooLong, NoPosition, NotWritten, NotBelowCount, CueOutOfRange, CueAlreadyIn, NoFreePlace, CueNotIn, HeadPastEnd, NoFreeLines, NoMemory}
 
@@ -35,3 +37,7 @@ number_of HeadPastEnd = 24
 number_of NoFreeLines = 25
 -- there is no memory for a base's own copy of its rows
 number_of NoMemory = 40
+
+-- the word `refused`, a space and the refusal's number
+abbrev pub refused_text : Refusal → List ℕ
+refused_text why = codes "refused " ++ decimal (number_of why)

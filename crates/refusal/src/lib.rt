@@ -1,25 +1,30 @@
-// Every refusal of the engine, one case for each cause, and the number that is answered for it.
+// Every refusal of the engine, one case for each cause, with the number that is answered for it.
 #![tactic(auto)]
 
-ghost use Rattle.std.specs.Prelude.{◌≡◌};
-ghost use Rattle.refusal.specs.Numbers.{number_of};
+ghost use Rattle.std.specs.Prelude.{◌≡◌, Some};
+ghost use Rattle.refusal.specs.Numbers.{number_of, refused_text};
+ghost use Rattle.refusal.specs.declared.Refusal.TheVariants.{NoMemory};
+
+use std::alloc::AllocError;
+use std::error::Error;
+use std::fmt;
 
 #[derive(Clone, Copy, PartialEq, Eq, Debug)]
 pub enum Refusal {
-    ShortBuffer,
-    BadMaking,
-    TapsFall,
-    RatioTooLong,
-    NoPosition,
-    NotWritten,
-    NotBelowCount,
-    CueOutOfRange,
-    CueAlreadyIn,
-    NoFreePlace,
-    CueNotIn,
-    HeadPastEnd,
-    NoFreeLines,
-    NoMemory,
+    ShortBuffer = 6,
+    BadMaking = 14,
+    TapsFall = 15,
+    RatioTooLong = 16,
+    NoPosition = 17,
+    NotWritten = 18,
+    NotBelowCount = 19,
+    CueOutOfRange = 20,
+    CueAlreadyIn = 21,
+    NoFreePlace = 22,
+    CueNotIn = 23,
+    HeadPastEnd = 24,
+    NoFreeLines = 25,
+    NoMemory = 40,
 }
 
 impl Refusal {
@@ -27,21 +32,26 @@ impl Refusal {
     pub fn number(self) -> u8
         ensures { result ≡ number_of self }
     {
-        match self {
-            Refusal::ShortBuffer => 6,
-            Refusal::BadMaking => 14,
-            Refusal::TapsFall => 15,
-            Refusal::RatioTooLong => 16,
-            Refusal::NoPosition => 17,
-            Refusal::NotWritten => 18,
-            Refusal::NotBelowCount => 19,
-            Refusal::CueOutOfRange => 20,
-            Refusal::CueAlreadyIn => 21,
-            Refusal::NoFreePlace => 22,
-            Refusal::CueNotIn => 23,
-            Refusal::HeadPastEnd => 24,
-            Refusal::NoFreeLines => 25,
-            Refusal::NoMemory => 40,
-        }
+        self as u8
+    }
+}
+
+// `refused N`, as operators read it, where N is the refusal's number.
+impl fmt::Display for Refusal {
+    ghost output = { λ why. Some (refused_text why) };
+
+    fn fmt<W: fmt::Write>(&self, f: &mut fmt::Formatter<W>) -> fmt::Result {
+        write!(f, "refused {}", self.number())
+    }
+}
+
+impl Error for Refusal {}
+
+// Want of memory is the refusal NoMemory, so that `?` passes it on.
+impl From<AllocError> for Refusal {
+    ghost from_gives = { λ _ why. why ≡ NoMemory };
+
+    fn from(_lack: AllocError) -> Refusal {
+        Refusal::NoMemory
     }
 }

@@ -1,7 +1,8 @@
 -- Among rows that climb, those that have begun are the first ones, so that halving counts them. Assumes nothing.
-use Rattle.std.proofs.Common.{◌≡◌, ℕ, zero, suc, ◌<◌, ◌≤◌, Bool, leb, List, [], ◌∷◌, length, get_or, filter, sym, ap, ◌∙◌, arith}
+use Rattle.std.proofs.Common.{◌≡◌, ℕ, zero, suc, ◌<◌, ◌≤◌, Bool, leb, List, [], ◌∷◌, length, filter, sym, ap, ◌∙◌, arith}
 use Rattle.std.proofs.lemmas.Bool.{cond-true, cond-false, le-leb, lt-leb}
 use Rattle.rows.specs.Begun.{Climbs, begun, Begun}
+use Rattle.rows.proofs.Cutting.{in_order}
 
 module _ {R : Type 0} (begins : R → ℕ) (x : ℕ) where
   abbrev test : R → Bool
@@ -10,12 +11,6 @@ module _ {R : Type 0} (begins : R → ℕ) (x : ℕ) where
   tail_climbs : (r : R) (rest : List R) → Climbs begins (r ∷ rest) → Climbs begins rest
   tail_climbs r [] up = tt
   tail_climbs r (s ∷ rest) up = up.1
-
-  first_least : (r : R) (rest : List R) (i : ℕ) (d : R) → Climbs begins (r ∷ rest) → i < length (r ∷ rest) →
-      begins r ≤ begins (get_or (r ∷ rest) i d)
-  first_least r rest zero d up l = omega arith
-  first_least r [] (suc i) d up l = absurd (omega arith)
-  first_least r (s ∷ rest) (suc i) d up l = omega (arith, up.0, first_least s rest i d up.1 (omega arith))
 
   none_begun : (r : R) (rest : List R) → Climbs begins (r ∷ rest) → x < begins r → begun begins (r ∷ rest) x ≡ 0
   none_begun r [] up h = ap length (cond-false (test r) (r ∷ []) [] (lt-leb _ _ h))
@@ -28,7 +23,7 @@ module _ {R : Type 0} (begins : R → ℕ) (x : ℕ) where
   counted (a ∷ rest) zero b up = sym (none_begun a rest up (b.next a (omega arith)))
   counted (a ∷ rest) (suc k) b up =
       let inside : suc k ≤ length (a ∷ rest) = b.inside in
-      let at : begins a ≤ x = omega (arith, first_least a rest k a up (omega arith), b.last k a (omega arith)) in
+      let at : begins a ≤ x = omega (arith, in_order begins (a ∷ rest) up 0 k a (omega arith) (omega arith), b.last k a (omega arith)) in
       let more : Begun begins rest x k = record {
         inside = omega arith;
         last = λ i d e. b.last (suc i) d (omega arith);

@@ -5,3 +5,4 @@ pub mod Ceiling
 pub mod Adding
 pub mod Linking
 pub mod Counted
+pub mod Cutting

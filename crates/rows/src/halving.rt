@@ -5,15 +5,16 @@ ghost use Rattle.rows.specs.Begun.{Begun, Climbs, begun};
 use crate::row::Row;
 
 fn has_begun<R: Row>(row: R, x: u64) -> bool
-    ensures { result ≡ nat_le (R.Row.begins row) x }
+    ensures { result ≡ nat_le (R.begins row) x }
 {
     row.begins() <= x
 }
 
-// How many of the rows, if none begins before the one before it, have begun at `x`: each turn halves what is left.
+// How many of the rows, if none begins before the one before it, have begun at `x`: each turn halves what is left. Not by
+// `partition_point`: what this promises of rows out of order would then take a second search behind it.
 pub fn begun_by<R: Row>(rows: &[R], x: u64) -> usize
-    ensures parted { Begun R.Row.begins rows.now x result }
-    ensures value { Climbs R.Row.begins rows.now → result ≡ begun R.Row.begins rows.now x }
+    ensures parted { Begun R.begins rows.now x result }
+    ensures value { Climbs R.begins rows.now → result ≡ begun R.begins rows.now x }
 {
     let mut low = 0;
     let mut high = rows.len();

@@ -8,6 +8,7 @@ pub trait Row: Copy {
         ensures { result ≡ begins self };
 }
 
+// An impl for each number: one for all that turn into u64 would overlap with those of the rows of other crates.
 impl Row for u64 {
     ghost begins = { λ n. n };
 

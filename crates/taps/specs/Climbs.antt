@@ -42,7 +42,7 @@ climbs_le before (s ∷ rest) c (suc j) zero le h = absurd (not-suc-le-zero le)
 climbs_le before (s ∷ rest) c (suc j) (suc k) le h =
     climbs_le s rest (next_climbs before s rest c).on j k (le_of_suc-le-suc le) (le_of_suc-le-suc h)
 
-exists_at : (before : ℕ) (samples : List ℕ) → never_falls before samples ≡ true →
+pub exists_at : (before : ℕ) (samples : List ℕ) → never_falls before samples ≡ true →
     (k : ℕ) → k < length samples → slice_index samples k ≤ last_sample
 exists_at before [] c k h = absurd (not-suc-le-zero h)
 exists_at before (s ∷ rest) c zero h = (next_climbs before s rest c).there

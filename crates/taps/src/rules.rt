@@ -1,6 +1,8 @@
 // The rules of a table of taps, tried entry by entry.
-ghost use Rattle.std.specs.Prelude.{◌≡◌};
-ghost use Rattle.taps.specs.Rules.{follows, never_falls, short};
+ghost use Rattle.std.specs.Prelude.{◌≡◌, ◌≤◌, ◌↔◌, IsTrue, EachIndex, slice_index};
+ghost use Rattle.std.specs.List.Sorted.{IsNonDecreasing};
+ghost use Rattle.timebase.specs.Meaning.{last_sample};
+ghost use Rattle.taps.specs.Rules.{never_falls, short};
 
 use timebase::base::LAST_SAMPLE;
 
@@ -13,22 +15,21 @@ pub(crate) fn few(samples: &[u64]) -> bool
     samples.len() <= MOST
 }
 
-fn may_follow(before: u64, next: u64) -> bool
-    ensures { result ≡ follows before next }
+fn never_back(samples: &[u64]) -> bool
+    ensures { IsTrue result ↔ IsNonDecreasing samples.now }
 {
-    before <= next && next <= LAST_SAMPLE
+    samples.is_sorted_by(|before, next| before <= next)
+}
+
+fn all_exist(samples: &[u64]) -> bool
+    ensures { IsTrue result ↔ EachIndex samples.now (λ k. slice_index samples.now k ≤ last_sample) }
+{
+    samples.iter().all(|sample| *sample <= LAST_SAMPLE)
 }
 
 // Whether no entry is lower than the one before it or past the last sample.
 pub(crate) fn climbs(samples: &[u64]) -> bool
     ensures { result ≡ never_falls 0 samples.now }
 {
-    let mut before = 0;
-    for next in samples {
-        if !may_follow(before, *next) {
-            return false;
-        }
-        before = *next;
-    }
-    true
+    never_back(samples) && all_exist(samples)
 }

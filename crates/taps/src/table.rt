@@ -23,15 +23,15 @@ impl Timebase for Taps {
     ghost sound = { λ t. taps_sound _ t.few t.climbs };
 
     fn len(&self) -> u64 {
+        // By `as`, since no From leads from a usize to a u64.
         self.samples.len() as u64
     }
 
     fn place(&self, p: u64) -> Result<u64, Refusal> {
-        if p < self.samples.len() as u64 {
-            Ok(self.samples[p as usize])
-        } else {
-            Err(Refusal::NoPosition)
-        }
+        self.samples
+            .get(p as usize)
+            .copied()
+            .ok_or(Refusal::NoPosition)
     }
 
     fn locate(&self, s: u64) -> u64 {

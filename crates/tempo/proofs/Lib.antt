@@ -1,3 +1,4 @@
-pub mod Walk
-pub mod Summing
+pub mod RateTable
 pub mod Answering
+pub mod Kept
+pub mod Summing

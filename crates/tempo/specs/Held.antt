@@ -1,18 +1,21 @@
 -- What a tempo map holds: its rows are lawful, its rate is one of the four, and the looked-up row gives tick and sum.
 -- Assumes nothing.
-use Rattle.std.specs.Prelude.{◌≡◌, ℕ, ◌+◌, ◌-◌, ◌*◌, ◌<◌, ◌≤◌, true, ◌&&◌, leb, List, length, get_or, vec_items, nat_le, slice_index, slice_index_or}
-use Rattle.std.proofs.Common.{sym, ◌∙◌, subst, arith}
+use Rattle.std.specs.Prelude.{◌≡◌, ℕ, ◌+◌, ◌-◌, ◌*◌, ◌<◌, ◌≤◌, true, ◌&&◌, leb, List, length, get_or, vec_items, nat_le, slice_index_or}
+use Rattle.std.proofs.Common.{sym, ap, ◌∙◌, subst, arith}
+use Rattle.std.proofs.Math.ListN.{get_or-map}
+use Rattle.std.proofs.lemmas.List.{length-map}
 use Rattle.std.proofs.lemmas.Bool.{and_parts}
 use Rattle.std.proofs.lemmas.Bool.Decides.{nat_tests}
 use Rattle.rows.specs.Begun.{Begun}
 use Rattle.rows.proofs.Adding.{none_before}
 use Rattle.rows.proofs.Beginning.{Last, last_begun}
 use Rattle.tempo.specs.Rules.{rows_kept, kept}
-use Rattle.tempo.specs.Micros.{no_row, stretch, whole_stretch, micros}
+use Rattle.tempo.specs.Micros.{no_row, no_sum, stretch, whole_stretch, micros}
 use Rattle.tempo.specs.Maps.{rows_of, map_micros}
 use Rattle.tempo.specs.Rates.{samples_at}
 use Rattle.tempo.specs.Lies.{TickIn, MicrosIn, Parted}
 use Rattle.tempo.specs.declared.row.TempoRow.{TempoRow}
+use Rattle.tempo.specs.declared.row.SummedRow.{SummedRow}
 use Rattle.tempo.specs.declared.map.TempoMap.{TempoMap}
 use Rattle.tempo.specs.Stretch.{tick_of}
 use Rattle.tempo.specs.Whole.{Placed, placed_at, some_rows, first_at_0}
@@ -20,6 +23,12 @@ use Rattle.tempo.specs.Found.{micros_found, row_found}
 use Rattle.tempo.specs.Rising.{micros_not_fall}
 use Rattle.tempo.specs.Lookup.{tick_parts}
 use Rattle.tempo.specs.Scaling.{Rated, rated_at}
+
+abbrev pub held_tick : SummedRow → ℕ
+held_tick r = r.row.tick
+
+abbrev pub held_sum : SummedRow → ℕ
+held_sum r = r.sum
 
 pub record Kept (division : ℕ) (rows : List TempoRow) (last : ℕ) : Type 0 where
   pub low : 1 ≤ division
@@ -44,11 +53,11 @@ parts_of division rows last k =
 pub kept_of : (m : TempoMap) → Kept m.division (rows_of m) m.last
 kept_of m = parts_of m.division (rows_of m) m.last m.lawful
 
-pub rated_of : (m : TempoMap) → Rated m.sample_rate m.rate.samples m.rate.micros
+pub rated_of : (m : TempoMap) → Rated m.rate.sample_rate m.rate.samples m.rate.micros
 rated_of m =
-    let rate = m.sample_rate in
-    subst (λ n. Rated rate n m.rate.micros) (sym m.rated)
-    (subst (λ k. Rated rate (samples_at rate) k) (sym m.timed) (rated_at rate m.known))
+    let r = m.rate in
+    subst (λ n. Rated r.sample_rate n r.micros) (sym r.rated)
+    (subst (λ k. Rated r.sample_rate (samples_at r.sample_rate) k) (sym r.timed) (rated_at r.sample_rate r.known))
 
 pub placed_in : (m : TempoMap) (i : ℕ) → i < length (rows_of m) → Placed (rows_of m) m.last i
 placed_in m i l = placed_at (rows_of m) m.last i (kept_of m).all l
@@ -59,19 +68,36 @@ some_held m = some_rows (rows_of m) m.last (kept_of m).all
 pub tick_first : (m : TempoMap) → (get_or (rows_of m) 0 no_row).tick ≡ 0
 tick_first m = first_at_0 (rows_of m) m.last (kept_of m).all
 
-pub sum_first : (m : TempoMap) → slice_index (vec_items m.sums) 0 ≡ 0
-sum_first m = m.summed 0 (some_held m) ∙ none_before whole_stretch (rows_of m)
+-- as many rows as a map was made of, and each of them
+pub all_held : (m : TempoMap) → length (rows_of m) ≡ length (vec_items m.rows)
+all_held m = length-map (vec_items m.rows) (λ (r : SummedRow). r.row)
+
+pub row_held : (m : TempoMap) (i : ℕ) → slice_index_or (rows_of m) i no_row ≡ (slice_index_or (vec_items m.rows) i no_sum).row
+row_held m i = get_or-map (λ (r : SummedRow). r.row) (vec_items m.rows) i no_sum
+
+pub sum_first : (m : TempoMap) → (slice_index_or (vec_items m.rows) 0 no_sum).sum ≡ 0
+sum_first m = m.summed 0 (omega (arith, some_held m, all_held m)) ∙ none_before whole_stretch (rows_of m)
 
 -- no tick up to the last lies past a day
 pub in_day : (m : TempoMap) (p : ℕ) → p ≤ m.last → map_micros m p ≤ m.division * 86400000000
 in_day m p h = omega (arith, micros_not_fall (rows_of m) m.last p m.last (kept_of m).all h, (kept_of m).day)
 
 -- the last row that has begun at tick t, of the rows as the code reads them
-pub ticks_begun : (m : TempoMap) (rows : List TempoRow) (t r : ℕ) → rows ≡ rows_of m →
-    Begun tick_of rows t r → Last tick_of (rows_of m) no_row t r
+pub ticks_begun : (m : TempoMap) (rows : List SummedRow) (t r : ℕ) → rows ≡ vec_items m.rows →
+    Begun held_tick rows t r → Last tick_of (rows_of m) no_row t r
 ticks_begun m rows t r e b =
-    last_begun tick_of (rows_of m) no_row t r (some_held m) (omega (arith, tick_first m))
-    (subst (λ xs. Begun tick_of xs t r) e b)
+    let held = vec_items m.rows in
+    let tick : (i : ℕ) → (slice_index_or (rows_of m) i no_row).tick ≡ (slice_index_or (vec_items m.rows) i no_sum).row.tick =
+    λ i. ap tick_of (row_held m i) in
+    let last : Last held_tick held no_sum t r =
+    last_begun held_tick held no_sum t r (omega (arith, some_held m, all_held m))
+    (omega (arith, tick_first m, tick 0)) (subst (λ xs. Begun held_tick xs t r) e b) in
+    record {
+      some = last.some;
+      there = omega (arith, last.there, all_held m);
+      begun = omega (arith, last.begun, tick (r - 1));
+      not_next = λ h. omega (arith, last.not_next (omega (arith, all_held m)), tick (r - 1 + 1));
+    }
 
 pub tick_in : (m : TempoMap) (t r : ℕ) → Last tick_of (rows_of m) no_row t r → TickIn m t (r - 1)
 tick_in m t r last =
@@ -84,36 +110,36 @@ tick_in m t r last =
     }
 
 -- the last row whose sum has begun at x, alike
-pub sums_begun : (m : TempoMap) (sums : List ℕ) (x r : ℕ) → sums ≡ vec_items m.sums → Begun (λ n. n) sums x r →
-    Last (λ n. n) (vec_items m.sums) 0 x r
-sums_begun m sums x r e b =
-    last_begun (λ n. n) (vec_items m.sums) 0 x r (omega (arith, some_held m, m.whole)) (omega (arith, sum_first m))
-    (subst (λ xs. Begun (λ n. n) xs x r) e b)
+pub sums_begun : (m : TempoMap) (rows : List SummedRow) (x r : ℕ) → rows ≡ vec_items m.rows →
+    Begun held_sum rows x r → Last held_sum (vec_items m.rows) no_sum x r
+sums_begun m rows x r e b =
+    last_begun held_sum (vec_items m.rows) no_sum x r (omega (arith, some_held m, all_held m)) (omega (arith, sum_first m))
+    (subst (λ xs. Begun held_sum xs x r) e b)
 
-pub sum_in : (m : TempoMap) (x r : ℕ) → Last (λ n. n) (vec_items m.sums) 0 x r → MicrosIn m x (r - 1)
+pub sum_in : (m : TempoMap) (x r : ℕ) → Last held_sum (vec_items m.rows) no_sum x r → MicrosIn m x (r - 1)
 sum_in m x r last =
     record {
-      there = omega (arith, last.there, m.whole);
+      there = omega (arith, last.there, all_held m);
       begun = last.begun;
-      not_next = λ h. last.not_next (omega (arith, m.whole));
+      not_next = λ h. last.not_next (omega (arith, all_held m));
     }
 
 -- tick p as the code finds it
 pub tick_held : (m : TempoMap) (i p : ℕ) → TickIn m p i →
-    slice_index (vec_items m.sums) i + stretch (slice_index_or (rows_of m) i no_row) p ≡ map_micros m p
+    (slice_index_or (vec_items m.rows) i no_sum).sum + stretch (slice_index_or (rows_of m) i no_row) p ≡ map_micros m p
 tick_held m i p h =
     omega (
       arith,
       micros_found (rows_of m) m.last i p (kept_of m).all h.there h.begun (λ l. omega (arith, h.not_next l)),
-      m.summed i h.there,
+      m.summed i (omega (arith, h.there, all_held m)),
     )
 
 -- the tick of a sum x as the code finds it, c ticks after its row's
 pub sum_held : (m : TempoMap) (i x c : ℕ) → MicrosIn m x i →
-    Parted (λ n. n * (get_or (rows_of m) i no_row).q) (x - slice_index (vec_items m.sums) i) c →
+    Parted (λ n. n * (get_or (rows_of m) i no_row).q) (x - (slice_index_or (vec_items m.rows) i no_sum).sum) c →
     Parted (map_micros m) x ((get_or (rows_of m) i no_row).tick + c)
 sum_held m i x c h parted =
-    let sum = m.summed i h.there in
+    let sum = m.summed i (omega (arith, h.there, all_held m)) in
     tick_parts (rows_of m) m.last i x c (kept_of m).all h.there (omega (arith, sum, h.begun))
-    (λ l. omega (arith, m.summed (i + 1) l, h.not_next l))
+    (λ l. omega (arith, m.summed (i + 1) (omega (arith, all_held m)), h.not_next l))
     (subst (λ y. Parted (λ n. n * (get_or (rows_of m) i no_row).q) (x - y) c) sum parted)

@@ -3,8 +3,8 @@
 --   MicrosIn  x lies in row i, alike by the running sums
 --   Parted    f is at least x exactly from r on
 -- Assumes nothing.
-use Rattle.std.specs.Prelude.{◌≡◌, ℕ, ◌+◌, ◌<◌, ◌≤◌, length, vec_items, slice_index, slice_index_or}
-use Rattle.tempo.specs.Micros.{no_row, row_at}
+use Rattle.std.specs.Prelude.{◌≡◌, ℕ, ◌+◌, ◌<◌, ◌≤◌, length, vec_items, slice_index_or}
+use Rattle.tempo.specs.Micros.{no_row, no_sum, row_at}
 use Rattle.tempo.specs.Maps.{rows_of}
 use Rattle.tempo.specs.declared.map.TempoMap.{TempoMap}
 
@@ -16,8 +16,8 @@ pub record TickIn (m : TempoMap) (t i : ℕ) : Type 0 where
 
 pub record MicrosIn (m : TempoMap) (x i : ℕ) : Type 0 where
   pub there : i < length (rows_of m)
-  pub begun : slice_index_or (vec_items m.sums) i 0 ≤ x
-  pub not_next : i + 1 < length (rows_of m) → x < slice_index (vec_items m.sums) (i + 1)
+  pub begun : (slice_index_or (vec_items m.rows) i no_sum).sum ≤ x
+  pub not_next : i + 1 < length (rows_of m) → x < (slice_index_or (vec_items m.rows) (i + 1) no_sum).sum
 
 abbrev pub Parted : (ℕ → ℕ) → ℕ → ℕ → Type 0
 Parted f x r = (p : ℕ) → (r ≤ p → x ≤ f p) × (x ≤ f p → r ≤ p)

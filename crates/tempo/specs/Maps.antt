@@ -14,13 +14,13 @@ use Rattle.refusal.specs.declared.Refusal.TheVariants.{BadMaking, NoMemory}
 use Rattle.timebase.specs.Meaning.{Meaning}
 use Rattle.timebase.specs.Scale.{scaled, reached}
 use Rattle.tempo.specs.Rules.{kept}
-use Rattle.tempo.specs.Micros.{micros, row_at}
+use Rattle.tempo.specs.Micros.{rows_in, micros, row_at}
 use Rattle.tempo.specs.Rates.{known_rate}
 use Rattle.tempo.specs.declared.row.TempoRow.{TempoRow}
 use Rattle.tempo.specs.declared.map.TempoMap.{TempoMap}
 
 abbrev pub rows_of : TempoMap → List TempoRow
-rows_of m = vec_items m.rows
+rows_of m = rows_in (vec_items m.rows)
 
 abbrev pub map_micros : TempoMap → ℕ → ℕ
 map_micros m p = micros (rows_of m) p
@@ -37,10 +37,10 @@ tempo_meaning m = record { len = m.last + 1; rule = λ p. samples_of m (map_micr
 abbrev pub Making : ℕ → List TempoRow → ℕ → ℕ → Result TempoMap Refusal → Type 0
 Making division rows last rate (Ok m) =
     ((kept division rows last && known_rate rate) ≡ true)
-    × (m.division ≡ division) × (rows_of m ≡ rows) × (m.last ≡ last) × (m.sample_rate ≡ rate)
+    × (m.division ≡ division) × (rows_of m ≡ rows) × (m.last ≡ last) × (m.rate.sample_rate ≡ rate)
 Making division rows last rate (Err e) = e ≡ cond (kept division rows last && known_rate rate) NoMemory BadMaking
 
 pub record AddsUp (m : TempoMap) : Type 0 where
   pub starts : map_micros m 0 ≡ 0
   pub follows : (p : ℕ) → map_micros m (p + 1) ≡ map_micros m p + (row_at (rows_of m) p).q
-  pub rated : m.rate.samples * 1000000 ≡ m.sample_rate * m.rate.micros
+  pub rated : m.rate.samples * 1000000 ≡ m.rate.sample_rate * m.rate.micros

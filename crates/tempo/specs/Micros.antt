@@ -6,13 +6,17 @@
 --   micros_from    from a row's own tick to tick p, by that row and those after it
 --   micros         the same by a whole map, from tick 0
 --   micros_before  from tick 0 to row i of a map: its running sum
---   Summed         the first n of a list are the running sums of the first n rows
+--   no_sum         stands where a map holds no row
+--   rows_in        the rows without their running sums
+--   sum_after      the sum at a row's tick, from the row before it, if there is one
+--   Summed         with each row stands its running sum
 --   row_at         the last row of a map that does not lie past tick t: its tempo is current there
 -- Assumes nothing.
-use Rattle.std.specs.Prelude.{◌≡◌, ℕ, ◌+◌, ◌-◌, ◌*◌, ◌<◌, cond, List, [], ◌∷◌, nat_lt, slice_index}
+use Rattle.std.specs.Prelude.{◌≡◌, ℕ, ◌+◌, ◌-◌, ◌*◌, ◌<◌, cond, Option, Some, None, List, [], ◌∷◌, length, map, nat_lt, slice_index_or}
 use Rattle.rows.specs.Current.{current}
 use Rattle.rows.specs.Sums.{sum_before}
 use Rattle.tempo.specs.declared.row.TempoRow.{TempoRow}
+use Rattle.tempo.specs.declared.row.SummedRow.{SummedRow}
 
 abbrev pub no_row : TempoRow
 no_row = record { tick = 0; q = 0 }
@@ -34,8 +38,18 @@ whole_stretch r s = stretch r s.tick
 abbrev pub micros_before : List TempoRow → ℕ → ℕ
 micros_before rows i = sum_before whole_stretch rows i
 
-abbrev pub Summed : List TempoRow → List ℕ → ℕ → Type 0
-Summed rows sums n = (k : ℕ) → k < n → slice_index sums k ≡ micros_before rows k
+abbrev pub no_sum : SummedRow
+no_sum = record { row = no_row; sum = 0 }
+
+abbrev pub rows_in : List SummedRow → List TempoRow
+rows_in rows = map (λ (r : SummedRow). r.row) rows
+
+abbrev pub sum_after : Option SummedRow → TempoRow → ℕ
+sum_after None r = 0
+sum_after (Some s) r = s.sum + whole_stretch s.row r
+
+abbrev pub Summed : List SummedRow → Type 0
+Summed rows = (k : ℕ) → k < length rows → (slice_index_or rows k no_sum).sum ≡ micros_before (rows_in rows) k
 
 abbrev pub row_at : List TempoRow → ℕ → TempoRow
 row_at rows t = current (λ (r : TempoRow). r.tick) no_row rows t

@@ -3,10 +3,12 @@
 --   next_kept  a row is in range, and another lies after it
 --   last_kept  a row is in range, and does not lie past the last tick
 --   all_kept   a row and those after it keep the rules
+--   ends_kept  there is a last row, and it keeps the rule for the last
+--   chain_kept the same of a list of rows, of which there is one at least
 --   rows_kept  the rows of a whole map keep the rules: 1 to 1,024 of them, the first at tick 0
 --   kept       a whole map keeps the rules: its last tick falls within 24 hours
 -- Assumes nothing.
-use Rattle.std.specs.Prelude.{ℕ, ◌*◌, Bool, false, ◌&&◌, List, [], ◌∷◌, length, ◌==◌, nat_le, nat_lt}
+use Rattle.std.specs.Prelude.{ℕ, ◌*◌, Bool, false, ◌&&◌, Option, Some, None, List, [], ◌∷◌, length, ◌==◌, nat_le, nat_lt}
 use Rattle.rows.specs.Chains.{chained}
 use Rattle.tempo.specs.Micros.{micros}
 use Rattle.tempo.specs.declared.row.TempoRow.{TempoRow}
@@ -22,6 +24,14 @@ last_kept r last = row_kept r && nat_le r.tick last
 
 abbrev pub all_kept : TempoRow → List TempoRow → ℕ → Bool
 all_kept r rest last = chained next_kept (λ x. last_kept x last) r rest
+
+abbrev pub ends_kept : Option TempoRow → ℕ → Bool
+ends_kept None last = false
+ends_kept (Some r) last = last_kept r last
+
+abbrev pub chain_kept : List TempoRow → ℕ → Bool
+chain_kept [] last = false
+chain_kept (r ∷ rest) last = all_kept r rest last
 
 abbrev pub rows_kept : List TempoRow → ℕ → Bool
 rows_kept [] last = false

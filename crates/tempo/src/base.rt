@@ -16,6 +16,7 @@ impl Timebase for TempoMap {
     }
 
     fn place(&self, p: u64) -> Result<u64, Refusal> {
+        // A plain `if`: `then` would take a closure, and `ok_or` after it.
         if p < self.ticks() {
             Ok(self.sample_at(p))
         } else {

@@ -2,8 +2,8 @@
 #![tactic(auto)]
 
 pub mod base;
+mod draft;
 pub mod map;
 pub mod rates;
 pub mod row;
-mod rules;
 mod sums;

@@ -1,11 +1,10 @@
-// A tempo map: it owns its rows, and keeps beside each how far it lies from tick 0.
-ghost use Rattle.std.specs.Prelude.{◌≡◌, true, length};
-ghost use Rattle.tempo.specs.Micros.{Summed};
-ghost use Rattle.tempo.specs.Rates.{known_rate, samples_at, micros_at};
+// A tempo map: it owns its rows, and keeps with each how far it lies from tick 0.
+ghost use Rattle.std.specs.Prelude.{◌≡◌, true};
+ghost use Rattle.tempo.specs.Micros.{rows_in, Summed};
 ghost use Rattle.tempo.specs.Rules.{kept};
 
 use crate::rates::SampleRateRow;
-use crate::row::TempoRow;
+use crate::row::SummedRow;
 
 mod finding;
 mod lookup;
@@ -15,15 +14,9 @@ mod scaling;
 #[derive(Drop)]
 pub struct TempoMap {
     division: u32,
-    rows: Vec<TempoRow>,
-    sums: Vec<u64>,
+    rows: Vec<SummedRow>,
     last: u32,
-    sample_rate: u32,
     rate: SampleRateRow,
-    ghost lawful: { kept division rows.items last ≡ true },
-    ghost whole: { length sums.items ≡ length rows.items },
-    ghost summed: { Summed rows.items sums.items (length rows.items) },
-    ghost known: { known_rate sample_rate ≡ true },
-    ghost rated: { rate.samples ≡ samples_at sample_rate },
-    ghost timed: { rate.micros ≡ micros_at sample_rate },
+    ghost lawful: { kept division (rows_in rows.items) last ≡ true },
+    ghost summed: { Summed rows.items },
 }

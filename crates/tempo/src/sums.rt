@@ -1,49 +1,33 @@
-// How far ticks lie from tick 0, added up row by row, in microseconds times the ticks of a quarter.
-ghost use Rattle.std.specs.Prelude.{◌≡◌, ℕ, ◌+◌, ◌^◌, ◌≤◌, true, length, IfOk, IfErr};
-ghost use Rattle.refusal.specs.declared.Refusal.TheVariants.{NoMemory};
-ghost use Rattle.tempo.specs.Micros.{stretch, micros, Summed};
+// The rows of a map with their running sums.
+ghost use Rattle.std.specs.Prelude.{◌≡◌, ℕ, ◌-◌, ◌^◌, ◌<◌, true, length, IfOk};
+ghost use Rattle.std.specs.List.{slice_get};
+ghost use Rattle.tempo.specs.Micros.{rows_in, sum_after, Summed};
 ghost use Rattle.tempo.specs.Rules.{rows_kept};
 
-use crate::row::TempoRow;
-use refusal::Refusal;
-use std::alloc::Global;
+use crate::row::{SummedRow, TempoRow};
+use std::alloc::{AllocError, Global};
 
-// The sum at `tick`, from that at the row.
-fn add_stretch(sum: u64, row: TempoRow, tick: u32) -> u64
-    requires { (sum ≤ 2 ^ 54) × ((row.q ≤ 16777215) × (row.tick ≤ tick)) }
-    ensures { result ≡ sum + stretch row tick }
+// The sum at the tick of `row`, which stands after those of `summed`.
+fn sum_after(summed: &[SummedRow], row: TempoRow) -> u64
+    requires { sum_after (slice_get summed.now (length summed.now - 1)) row < 2 ^ 64 }
+    ensures { result ≡ sum_after (slice_get summed.now (length summed.now - 1)) row }
 {
-    sum + (tick - row.tick) as u64 * row.q as u64
-}
-
-// The sum at the last tick.
-pub(crate) fn end_micros(rows: &[TempoRow], last: u32) -> u64
-    requires { rows_kept rows.now last ≡ true }
-    ensures { result ≡ micros rows.now last }
-{
-    let mut sum = 0;
-    for i in 0..rows.len() - 1 {
-        sum = add_stretch(sum, rows[i], rows[i + 1].tick);
+    match summed.last() {
+        Some(before) => before.sum + before.row.up_to(row),
+        None => 0,
     }
-    add_stretch(sum, rows[rows.len() - 1], last)
 }
 
-// The sum at each row.
-pub(crate) fn running_sums(heap: Global, rows: &[TempoRow]) -> Result<Vec<u64>, Refusal>
+// Copies of the rows, each with the sum at its tick: that of the row before it, and what lies between.
+pub(crate) fn summed_rows(heap: Global, rows: &[TempoRow]) -> Result<Vec<SummedRow>, AllocError>
     requires { (last : ℕ) × (rows_kept rows.now last ≡ true) }
-    ensures len { IfOk result (λ v. length v.items ≡ length rows.now) }
-    ensures made { IfOk result (λ v. Summed rows.now v.items (length rows.now)) }
-    ensures refused { IfErr result (λ e. e ≡ NoMemory) }
+    ensures rows { IfOk result (λ v. rows_in v.items ≡ rows.now) }
+    ensures summed { IfOk result (λ v. Summed v.items) }
 {
-    let mut sums = match Vec::with_capacity(heap, rows.len()) {
-        Ok(sums) => sums,
-        Err(_) => return Err(Refusal::NoMemory),
-    };
-    let mut sum = 0;
-    sums.push_reserved(sum);
-    for i in 0..rows.len() - 1 {
-        sum = add_stretch(sum, rows[i], rows[i + 1].tick);
-        sums.push_reserved(sum);
+    let mut summed: Vec<SummedRow> = Vec::with_capacity(heap, rows.len())?;
+    for row in rows {
+        let sum = sum_after(summed.as_slice(), *row);
+        summed.push_reserved(SummedRow { row: *row, sum });
     }
-    Ok(sums)
+    Ok(summed)
 }

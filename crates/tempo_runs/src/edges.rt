@@ -20,10 +20,7 @@ fn at(tick: u32, q: u32) -> TempoRow {
 fn placed(rt: &HostRuntime, sample: Result<u64, Refusal>) -> io::Result<()> {
     match sample {
         Ok(sample) => print!(rt; " on {sample}"),
-        Err(why) => {
-            let number = why.number();
-            print!(rt; " refused {number}")
-        }
+        Err(why) => print!(rt; " {why}"),
     }
 }
 
@@ -45,10 +42,7 @@ fn edge(
             let end = map.locate(LAST_SAMPLE);
             println!(rt; ", the last sample located {end}")
         }
-        Err(why) => {
-            let number = why.number();
-            println!(rt; "{name}: refused {number}")
-        }
+        Err(why) => println!(rt; "{name}: {why}"),
     }
 }
 
@@ -92,18 +86,14 @@ fn numbers(rt: &HostRuntime) -> io::Result<()> {
 
 // A row on each tick.
 fn dense(heap: Global, count: u32) -> Result<Vec<TempoRow>, AllocError> {
-    let mut rows = Vec::new(heap);
-    for tick in 0..count {
-        rows.push(at(tick, Q))?;
-    }
-    Ok(rows)
+    (0..count).map(|tick| at(tick, Q)).collect(heap)
 }
 
 pub(crate) fn edges(rt: &HostRuntime) -> io::Result<()> {
     rows(rt)?;
     numbers(rt)?;
     let most = dense(rt.alloc(), 1024)?;
-    edge(rt, "1024 rows", 480, most.as_slice(), 1024, 48_000)?;
+    edge(rt, "1024 rows", 480, &most, 1024, 48_000)?;
     let more = dense(rt.alloc(), 1025)?;
-    edge(rt, "1025 rows", 480, more.as_slice(), 1024, 48_000)
+    edge(rt, "1025 rows", 480, &more, 1024, 48_000)
 }

@@ -1,57 +1,40 @@
 // Trying ticks of a map: each is placed, its sample is located again, and its tempo looked up.
-use std::io;
+use std::hash::Hasher;
+use std::iter::once;
 use tempo::map::TempoMap;
 use tempo::row::TempoRow;
 use timebase::base::Timebase;
+use trials::failure::Failure;
+use trials::tally::Tally;
 
-#[derive(Clone, Copy)]
-pub struct Tally {
+// What was tried so far.
+#[derive(Clone, Copy, Default)]
+pub struct Tried {
     // The first tick not yet tried: none is tried twice.
     due: u64,
-    pub hash: u64,
-    pub sum: u64,
+    pub tally: Tally,
     pub located: u64,
 }
 
-fn hashed(before: u64, n: u64) -> u64 {
-    let mut hash = before;
-    for byte in n.to_le_bytes() {
-        hash = (hash ^ u64::from(byte)).wrapping_mul(0x100_0000_01b3);
+impl Tried {
+    // The hash goes over the bytes of the sample and of the tempo, and the sum over the samples.
+    fn add(&mut self, tick: u64, sample: u64, q: u32, located: bool) {
+        self.due = tick.wrapping_add(1);
+        self.tally.hash.write_u64(sample);
+        self.tally.hash.write_u64(u64::from(q));
+        self.tally.add(sample);
+        self.located = self.located.wrapping_add(u64::from(located));
     }
-    hash
-}
-
-impl Tally {
-    const EMPTY: Tally = Tally {
-        due: 0,
-        hash: 0xcbf2_9ce4_8422_2325,
-        sum: 0,
-        located: 0,
-    };
-
-    // FNV-1a over the bytes of the sample and of the tempo, and the sum of the samples.
-    fn with(self, tick: u64, sample: u64, q: u32, located: bool) -> Tally {
-        Tally {
-            due: tick.wrapping_add(1),
-            hash: hashed(hashed(self.hash, sample), u64::from(q)),
-            sum: self.sum.wrapping_add(sample),
-            located: self.located.wrapping_add(u64::from(located)),
-        }
-    }
-}
-
-// No sample is as high as what stands for a refusal.
-fn sample_of(map: &TempoMap, tick: u64) -> u64 {
-    map.place(tick).unwrap_or(u64::MAX)
 }
 
 // Whether the tick's sample is located on the first tick that falls on it, and the next sample past the tick.
 fn located(map: &TempoMap, tick: u64, sample: u64) -> bool {
     let first = map.locate(sample);
     let later = map.locate(sample.wrapping_add(1));
+    let falls_earlier = |before| map.place(before).is_ok_and(|s| s < sample);
     first <= tick
-        && sample_of(map, first) == sample
-        && (first == 0 || sample_of(map, first - 1) < sample)
+        && map.place(first) == Ok(sample)
+        && first.checked_sub(1).is_none_or(falls_earlier)
         && tick < later
         && later <= map.len()
 }
@@ -68,30 +51,35 @@ struct Stretch {
 impl Stretch {
     // The j-th tick to try: the row's own, the one after it, and on to the last.
     fn spot(self, j: u64) -> u64 {
-        if j == 0 {
+        let Some(j) = j.checked_sub(1) else {
             return self.from;
-        }
+        };
         let next = self.from.wrapping_add(1).min(self.end);
-        let far = self.end.wrapping_sub(next).wrapping_mul(j - 1);
+        let far = self.end.wrapping_sub(next).wrapping_mul(j);
         next.wrapping_add(far / (u64::from(self.between) + 1))
     }
 }
 
-fn tried(rt: &HostRuntime, map: &TempoMap, row: Stretch, before: Tally) -> io::Result<Tally> {
-    let mut tally = before;
+fn try_row(
+    rt: &HostRuntime,
+    map: &TempoMap,
+    row: Stretch,
+    tried: &mut Tried,
+) -> Result<(), Failure> {
     let most = u64::from(row.between) + 2;
+    // No index: j says how far along the row the tick lies.
     for j in 0..=most {
         let tick = row.spot(j);
-        if tick >= tally.due {
-            let sample = sample_of(map, tick);
+        if tick >= tried.due {
+            let sample = map.place(tick)?;
             if row.shown && (j < 2 || j == most) {
                 print!(rt; " {tick}={sample}")?;
             }
             let q = map.tempo_at(tick).q;
-            tally = tally.with(tick, sample, q, located(map, tick, sample));
+            tried.add(tick, sample, q, located(map, tick, sample));
         }
     }
-    Ok(tally)
+    Ok(())
 }
 
 // Tries ticks of every row; prints some of the first two rows and of the last.
@@ -100,20 +88,19 @@ pub(crate) fn all_tried(
     map: &TempoMap,
     rows: &[TempoRow],
     between: u32,
-) -> io::Result<Tally> {
-    let mut tally = Tally::EMPTY;
-    for i in 0..rows.len() {
-        let end = match rows.get(i + 1) {
-            Some(next) => u64::from(next.tick),
-            None => map.len(),
-        };
+) -> Result<Tried, Failure> {
+    let mut tried = Tried::default();
+    let nexts = rows.iter().skip(1).map(|row| u64::from(row.tick));
+    let ends = nexts.chain(once(map.len()));
+    // Where a row stands says whether its ticks are shown.
+    for (i, (row, end)) in rows.iter().zip(ends).enumerate() {
         let row = Stretch {
-            from: u64::from(rows[i].tick),
+            from: u64::from(row.tick),
             end: end.wrapping_sub(1),
             between,
-            shown: i < 2 || i == rows.len() - 1,
+            shown: i < 2 || i + 1 == rows.len(),
         };
-        tally = tried(rt, map, row, tally)?;
+        try_row(rt, map, row, &mut tried)?;
     }
-    Ok(tally)
+    Ok(tried)
 }

@@ -4,17 +4,14 @@
 --   plain_none    any other word is not read
 --   plain_digits  every number below 2^64 reads back from its digits
 -- Assumes nothing.
-use Rattle.std.proofs.Common.{◌≡◌, ℕ, ◌+◌, ◌-◌, ◌*◌, ◌^◌, ◌<◌, ◌≤◌, Bool, true, false, cond, ltb, leb, List, length, get_or, take, Some, None, sym, refl, ap, ◌∙◌, subst, arith, length-take}
+use Rattle.std.proofs.Common.{lit<, ◌≡◌, ℕ, ◌+◌, ◌^◌, ◌<◌, ◌≤◌, Bool, true, false, cond, ltb, leb, List, length, Some, None, Option, IfNone, IfSome, unwrap_or, ◌*◌, inl, inr, pow-suc, suc, sym, refl, ap, ◌∙◌, arith}
 use Rattle.std.specs.Str.Parse.{digits_value, AllDigits}
-use Rattle.std.specs.Int.{IsInRange}
-use Rattle.std.specs.Char.{digit_value}
+use Rattle.std.specs.Option.{SomeIff}
 use Rattle.std.specs.Str.{all_ascii_digits}
-use Rattle.std.proofs.lemmas.List.{take_all}
-use Rattle.std.proofs.lemmas.Bool.{and_parts, and_from, lt-ltb, le-leb, ltb-true, leb-true, cond-true}
-use Rattle.std.proofs.lemmas.Int.Digits.{digits_value_more, digits_more}
-use Rattle.std.proofs.lemmas.Str.Parse.{IsNumeralModel, numerals_by_value, tells_all_ascii_digits, not_in_digits, digits_value_short}
-use Rattle.std.proofs.lemmas.Fmt.{digits_decimal, digits_value-decimal, length-decimal-le, decimal_nonempty}
-use Rattle.std.proofs.lemmas.Bool.Decides.{nat_tests}
+use Rattle.std.proofs.Math.Nat.{pow-le-pow_right}
+use Rattle.std.proofs.lemmas.Bool.{cases_lt, and_parts, and_from, lt-ltb, le-leb, ltb-true, leb-true, cond-true}
+use Rattle.std.proofs.lemmas.Str.Parse.{IsNumeralModel, numerals_by_value, tells_all_ascii_digits, digits_value_short}
+use Rattle.std.proofs.lemmas.Fmt.{digits_decimal, digits_value-decimal, length-decimal-le, decimal_nonempty, decimal_digit}
 use Rattle.text.specs.Decimal.{digits, fair, plain}
 
 own : IsNumeralModel (λ ds. all_ascii_digits ds ≡ true) (digits_value 10)
@@ -50,21 +47,13 @@ unless false x y h = refl
 pub plain_none : (word : List ℕ) → (Fair word → ⊥) → plain word ≡ None
 plain_none word h = unless (fair word) (Some (digits_value 10 word)) None (λ e. h (fair_parts word e))
 
--- a byte that is no digit spoils the word
-pub spoiled : (word : List ℕ) (i : ℕ) → i < length word → (IsInRange 48 57 (get_or word i 0) → ⊥) → plain word ≡ None
-spoiled word i h bad = plain_none word (λ f. not_in_digits own word (get_or word i 0) f.figures bad i h refl)
-
-pub value_small : (ds : List ℕ) → AllDigits 10 ds → length ds ≤ 20 → digits_value 10 ds < 10 ^ 20
-value_small ds h short = digits_value_short own ds 20 (own.from ds h) short
-
-pub read_is : (word : List ℕ) (n : ℕ) → 0 < length word → length word ≤ 20 → AllDigits 10 word → n ≡ digits_value 10 word
-    → n < 2 ^ 64 → Some n ≡ plain word
-read_is word n some short figures is below =
-    ap Some is
-    ∙ sym (plain_is word (record { some = some; short = short; figures = own.from word figures; below = omega arith }))
-
-pub too_large : (word : List ℕ) (n : ℕ) → n ≡ digits_value 10 word → 2 ^ 64 ≤ n → plain word ≡ None
-too_large word n is large = plain_none word (λ f. omega (arith, f.below))
+-- what the digits of a short word make of 0 is the number that it says
+pub plain_of : (word : List ℕ) (r : Option ℕ) → 0 < length word → length word ≤ 20
+    → SomeIff r (AllDigits 10 word × (digits_value 10 word < 2 ^ 64)) (digits_value 10 word) → r ≡ plain word
+plain_of word (Some n) some short h =
+    ap Some h.1
+    ∙ sym (plain_is word (record { some = some; short = short; figures = own.from word h.0.0; below = h.0.1 }))
+plain_of word None some short h = sym (plain_none word (λ f. h (own.to word f.figures, f.below)))
 
 -- every number below 2^64 reads back from its own digits
 pub plain_digits : (n : ℕ) → n < 2 ^ 64 → plain (digits n) ≡ Some n
@@ -77,25 +66,18 @@ plain_digits n small =
 pub width_most : (n : ℕ) → n < 2 ^ 64 → length (digits n) ≤ 20
 width_most n small = length-decimal-le 20 n (omega arith) (omega arith) small
 
-pub value_small_front : (word : List ℕ) (i : ℕ) → AllDigits 10 (take i word) → length word ≤ 20
-    → digits_value 10 (take i word) < 10 ^ 20
-value_small_front word i h short = value_small (take i word) h (simp length-take (omega arith))
+-- a number from one power of ten to below the next
+width_between : (n k : ℕ) → n < 2 ^ 64 → 10 ^ k ≤ n → n < 10 * 10 ^ k → 1 + k ≡ length (digits n)
+width_between n k small low high =
+    let next : n < 10 ^ suc k = omega (arith, pow-suc 10 k) in
+    let most = length-decimal-le (suc k) n (omega arith) next small in
+    let value = digits_value-decimal own n small in
+    let below = digits_value_short own (digits n) (length (digits n)) (digits_decimal own n small) (omega arith) in
+    let least : length (digits n) ≤ k → ⊥ = λ few. omega (arith, pow-le-pow_right {n = 10} (lit< tt) few) in
+    elim (cases_lt k (length (digits n))) [ inl more ↦ omega arith | inr few ↦ absurd (least few) ]
 
-digit_value_lem : (b : ℕ) → 48 ≤ b → b ≤ 57 → digit_value b ≡ b - 48
-digit_value_lem b low high = grind (arith, nat_tests)
-
--- one byte more of a word
-pub read_step : (word : List ℕ) (i n : ℕ) → i < length word → 48 ≤ get_or word i 0 → get_or word i 0 ≤ 57
-    → n ≡ digits_value 10 (take i word) → AllDigits 10 (take i word)
-    → (n * 10 + (get_or word i 0 - 48) ≡ digits_value 10 (take (i + 1) word)) × AllDigits 10 (take (i + 1) word)
-read_step word i n inside low high is figures =
-    let v : digit_value (get_or word i 0) ≡ get_or word i 0 - 48 = digit_value_lem (get_or word i 0) low high in
-    let below : digit_value (get_or word i 0) < 10 = omega arith in
-    let more = digits_value_more 10 word i inside in
-    (omega arith, digits_more 10 word i inside figures below)
-
-pub read_end : (word : List ℕ) (i n : ℕ) → length word ≤ i → n ≡ digits_value 10 (take i word) → AllDigits 10 (take i word)
-    → (n ≡ digits_value 10 word) × AllDigits 10 word
-read_end word i n past is figures =
-    let all = take_all i word past in
-    (is ∙ ap (digits_value 10) all, subst (AllDigits 10) all figures)
+-- 0 has a digit too
+pub width_is : (n : ℕ) (log : Option ℕ) → n < 2 ^ 64 → IfNone log (n ≡ 0) → IfSome log (λ k. 10 ^ k ≤ n)
+    → IfSome log (λ k. n < 10 * 10 ^ k) → 1 + unwrap_or log 0 ≡ length (digits n)
+width_is n None small none low high = sym (ap length (decimal_digit n (omega arith)))
+width_is n (Some k) small none low high = width_between n k small low high

@@ -1,6 +1,5 @@
 pub mod Figures
-pub mod Fills
+pub mod Reading
 pub mod Loans
 pub mod Chains
 pub mod Marks
-pub mod Fours

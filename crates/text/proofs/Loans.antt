@@ -1,23 +1,30 @@
--- What a text writer holds once it got back the part of its buffer that it lent: one lemma for every method.
---   loan_done     the part came back with the text at its start
---   loan_refused  the part came back as it was, too short for the text
+-- What a text writer holds once it got back the part of its buffer that it lent.
+--   appends_ok, appends_no  a text was appended, or did not fit
+--   filled_within           a step that puts a text fills no more than it was lent
+--   filled_ok               the part came back with the text at its start
+--   filled_no               the part came back as it was, too short for the text
 -- Assumes nothing.
-use Rattle.std.proofs.Common.{◌≡◌, ℕ, ◌+◌, ◌-◌, ◌<◌, ◌≤◌, Bool, true, false, cond, List, [], ◌++◌, length, take, drop, Some, None, Ok, Err, sym, refl, ap, ◌∙◌, append_assoc, arith, length-append, length-drop}
+use Rattle.std.proofs.Common.{◌≡◌, ℕ, ◌+◌, ◌-◌, ◌<◌, ◌≤◌, Bool, true, false, cond, List, [], ◌++◌, length, take, drop, Some, None, Ok, Err, Result, sym, refl, ap, ◌∙◌, subst, append_assoc, arith, length-append, length-drop}
 use borrow.Rule.Slice.PartMut.{put_mid}
-use Rattle.std.proofs.lemmas.List.{take_rest, take_at, drop-drop, drop_all, append-nil, take-append-drop, length-take-le, take_all}
+use Rattle.std.proofs.lemmas.List.{take_rest, take_at, drop-drop, drop_all, append-nil, take-append-drop, length-take-le}
 use Rattle.std.proofs.lemmas.Bool.{le-leb, lt-leb, leb-true, leb-false, cond-true, cond-false}
+use Rattle.std.specs.Option.{ok_or}
+use Rattle.refusal.specs.declared.Refusal.{Refusal}
 use Rattle.refusal.specs.declared.Refusal.TheVariants.{ShortBuffer}
 use Rattle.text.specs.declared.writer.TextWriter.{TextWriter}
-use Rattle.text.specs.Decimal.{fits_in, room_for, put_at_start}
-use Rattle.text.specs.Writer.{written, fits_after, Appends}
+use Rattle.text.specs.Decimal.{fits_in}
+use Rattle.text.specs.Writer.{written, fits_after, Puts, Appends}
 
-some_cond : (b : Bool) (x k : ℕ) → Some k ≡ cond b (Some x) None → (b ≡ true) × (k ≡ x)
-some_cond true x k e = (refl, cc)
-some_cond false x k e = let z : ◌≡◌ {A = ℕ} 0 1 = cc in absurd (omega arith)
+-- what a step answers says whether its text fits
+ok_fits : (b : Bool) (x k : ℕ) → ◌≡◌ {A = Result ℕ Refusal} (Ok k) (ok_or (cond b (Some x) None) ShortBuffer)
+    → (b ≡ true) × (k ≡ x)
+ok_fits true x k e = (refl, cc)
+ok_fits false x k e = let z : ◌≡◌ {A = ℕ} 0 1 = cc in absurd (omega arith)
 
-none_cond : (b : Bool) (x : ℕ) → None ≡ cond b (Some x) None → b ≡ false
-none_cond true x e = let z : ◌≡◌ {A = ℕ} 0 1 = cc in absurd (omega arith)
-none_cond false x e = refl
+err_short : (b : Bool) (x : ℕ) (why : Refusal)
+    → ◌≡◌ {A = Result ℕ Refusal} (Err why) (ok_or (cond b (Some x) None) ShortBuffer) → (b ≡ false) × (why ≡ ShortBuffer)
+err_short true x why e = let z : ◌≡◌ {A = ℕ} 0 1 = cc in absurd (omega arith)
+err_short false x why e = (refl, cc)
 
 -- the text stands after what was filled
 pub grown_by : (text out : List ℕ) (len : ℕ) → len ≤ length out
@@ -70,33 +77,40 @@ back_in out part len inside =
 abbrev pub lent : List ℕ → ℕ → List ℕ
 lent out len = take (length out - len) (drop len out)
 
-pub record Done (text out after : List ℕ) (len k : ℕ) : Type 0 where
-  pub fits : len + length text ≤ length out
-  pub count : k ≡ length text
-  pub buffer : after ≡ take len out ++ (text ++ drop (len + length text) out)
+-- a step filled no more than it was lent
+pub filled_within : (text out after : List ℕ) (k : ℕ) → Puts text out after (Ok k) → k ≤ length out
+filled_within text out after k p =
+    let s = ok_fits (fits_in text out) (length text) k p.said in
+    omega (arith, leb-true (length text) (length out) s.0, s.1)
 
-pub loan_done : (text out part : List ℕ) (len k : ℕ) → len ≤ length out → Some k ≡ room_for text (lent out len)
-    → part ≡ put_at_start text (lent out len) → Done text out (put_mid len (length out - len) out part) len k
-loan_done text out part len k inside room put =
+pub filled_ok : (text part : List ℕ) (from to : TextWriter) (k : ℕ) → from.len ≤ length from.out.now
+    → Puts text (lent from.out.now from.len) part (Ok k)
+    → to.out.now ≡ put_mid from.len (length from.out.now - from.len) from.out.now part → to.len ≡ from.len + k
+    → to.out.ghost_name ≡ from.out.ghost_name → Appends text from to (Ok tt)
+filled_ok text part from to k inside puts back filled same =
+    let out = from.out.now in
+    let len = from.len in
     let rest = take_rest out len in
-    let s = some_cond (fits_in text (lent out len)) (length text) k room in
+    let s = ok_fits (fits_in text (lent out len)) (length text) k puts.said in
     let enough = leb-true (length text) (length (lent out len)) s.0 in
     let long : length (lent out len) ≡ length out - len = ap length rest ∙ length-drop len out in
-    let is : part ≡ text ++ drop (len + length text) out = put ∙ cond-true _ _ _ s.0
+    let is : part ≡ text ++ drop (len + length text) out = puts.left ∙ cond-true _ _ _ s.0
     ∙ ap (λ xs. text ++ drop (length text) xs) rest ∙ ap (λ xs. text ++ xs) (drop-drop (length text) len out) in
-    record { fits = omega arith; count = s.1; buffer = back_in out part len inside ∙ ap (λ xs. take len out ++ xs) is }
+    appends_ok text from to (omega arith) (back ∙ back_in out part len inside ∙ ap (λ xs. take len out ++ xs) is)
+    (filled ∙ ap (λ n. len + n) s.1) same
 
-pub loan_refused : (text out part : List ℕ) (len : ℕ) → len ≤ length out → None ≡ room_for text (lent out len)
-    → part ≡ put_at_start text (lent out len)
-    → (length out < len + length text) × (put_mid len (length out - len) out part ≡ out)
-loan_refused text out part len inside room put =
+pub filled_no : (text part : List ℕ) (from to : TextWriter) (why : Refusal) (r : Result (Unit {0}) Refusal)
+    → from.len ≤ length from.out.now → Puts text (lent from.out.now from.len) part (Err why)
+    → to.out.now ≡ put_mid from.len (length from.out.now - from.len) from.out.now part → to.len ≡ from.len
+    → to.out.ghost_name ≡ from.out.ghost_name → r ≡ Err why → Appends text from to r
+filled_no text part from to why r inside puts back filled same said =
+    let out = from.out.now in
+    let len = from.len in
     let rest = take_rest out len in
-    let n = none_cond (fits_in text (lent out len)) (length text) room in
-    let short = leb-false (length text) (length (lent out len)) n in
+    let s = err_short (fits_in text (lent out len)) (length text) why puts.said in
+    let short = leb-false (length text) (length (lent out len)) s.0 in
     let long : length (lent out len) ≡ length out - len = ap length rest ∙ length-drop len out in
-    let is : part ≡ drop len out = put ∙ cond-false _ _ _ n ∙ rest in
-    (omega arith, back_in out part len inside ∙ ap (λ xs. take len out ++ xs) is ∙ take-append-drop len out)
-
--- a buffer that is full to its end
-pub take_full : (n : ℕ) (out : List ℕ) → length out ≤ n → take (length out - 0) out ≡ take n out
-take_full n out full = take_all (length out - 0) out (omega arith) ∙ sym (take_all n out full)
+    let is : part ≡ drop len out = puts.left ∙ cond-false _ _ _ s.0 ∙ rest in
+    let whole = back ∙ back_in out part len inside ∙ ap (λ xs. take len out ++ xs) is ∙ take-append-drop len out in
+    subst (Appends text from to) (sym (said ∙ ap (λ e. Err e) s.1))
+    (appends_no text from to (omega arith) whole filled same)

@@ -5,13 +5,16 @@
 --   said_after    the answer to a call that appends: done, or the buffer is too short
 --   buffer_after  the whole buffer after the call: the text after what was filled, and nothing else touched
 --   filled_after  how many bytes are filled after the call
+--   Puts          what a step does that puts a text at the start of the buffer that it is lent, or says that it does not fit
 --   Appends       what a call that appends does: all of it where the text fits, and else nothing
 --   Refuses       a call that refuses, and changes nothing
 --   Offered       a call that appends a text if it is a valid one, and else refuses it as not written
 -- Assumes nothing.
 use Rattle.std.specs.Prelude.{◌≡◌, ℕ, ◌+◌, Bool, true, false, cond, List, ◌++◌, length, take, drop, Ok, Err, Result, nat_le}
+use Rattle.std.specs.Option.{ok_or}
 use Rattle.refusal.specs.declared.Refusal.{Refusal}
 use Rattle.refusal.specs.declared.Refusal.TheVariants.{ShortBuffer, NotWritten}
+use Rattle.text.specs.Decimal.{room_for, put_at_start}
 use Rattle.text.specs.declared.writer.TextWriter.{TextWriter}
 
 abbrev pub written : TextWriter → List ℕ
@@ -31,6 +34,10 @@ buffer_after text len out = cond (fits_after text len out) (take len out ++ (tex
 
 abbrev pub filled_after : List ℕ → ℕ → List ℕ → ℕ
 filled_after text len out = cond (fits_after text len out) (len + length text) len
+
+pub record Puts (text out after : List ℕ) (r : Result ℕ Refusal) : Type 0 where
+  pub said : r ≡ ok_or (room_for text out) ShortBuffer
+  pub left : after ≡ put_at_start text out
 
 pub record Appends (text : List ℕ) (from to : TextWriter) (r : Result (Unit {0}) Refusal) : Type 0 where
   pub said : r ≡ said_after text from.len from.out.now

@@ -1,9 +1,21 @@
 // Whole numbers as text.
-ghost use Rattle.std.specs.Prelude.{◌≡◌, ◌+◌, ◌≤◌, ◌++◌, length, Some, None};
+ghost use Rattle.std.specs.Prelude.{◌≡◌, ◌+◌, ◌*◌, ◌^◌, ◌<◌, ◌≤◌, length};
+ghost use Rattle.std.specs.Char.{digit_value};
+ghost use Rattle.std.specs.Option.{SomeIff};
 ghost use Rattle.text.specs.Decimal.{digits, plain, put_at_start, room_for};
+
+use itoa::write_digits;
 
 // The most digits that a plain decimal has.
 const MOST_DIGITS: usize = 20;
+
+// A number with one digit more, where it fits.
+fn with_digit(n: u64, digit: u8) -> Option<u64>
+    ensures { SomeIff result ((digit_value digit < 10) × (n * 10 + digit_value digit < 2 ^ 64)) (n * 10 + digit_value digit) }
+{
+    let digit = char::from(digit).to_digit(10)?;
+    n.checked_mul(10)?.checked_add(u64::from(digit))
+}
 
 // The value of a plain decimal: 1 to 20 digits whose number fits 64 bits.
 pub fn read_number(word: &[u8]) -> Option<u64>
@@ -12,32 +24,15 @@ pub fn read_number(word: &[u8]) -> Option<u64>
     if word.is_empty() || word.len() > MOST_DIGITS {
         return None;
     }
-    // Twenty digits always fit 128 bits, so only the end asks whether the number is too large.
-    let mut n: u128 = 0;
-    for b in word {
-        if *b < b'0' || *b > b'9' {
-            return None;
-        }
-        n = n * 10 + (*b - b'0') as u128;
-    }
-    if n <= u64::MAX as u128 {
-        Some(n as u64)
-    } else {
-        None
-    }
+    word.iter().try_fold(0, |n, b| with_digit(n, *b))
 }
 
 // How many digits a number has.
 pub fn width(n: u64) -> usize
-    ensures { result ≡ length (digits n) }
+    ensures value { result ≡ length (digits n) }
+    ensures short { result ≤ 20 }
 {
-    let mut rest = n;
-    let mut count = 1;
-    while rest >= 10 {
-        rest /= 10;
-        count += 1;
-    }
-    count
+    1 + n.checked_ilog10().unwrap_or(0) as usize
 }
 
 // Writes the digits of a number at the start of `out`, and answers how many there are.
@@ -49,13 +44,6 @@ pub fn number(out: &mut [u8], n: u64) -> Option<usize>
     if out.len() < count {
         return None;
     }
-    let mut at = count;
-    let mut rest = n;
-    while rest >= 10 {
-        at -= 1;
-        out[at] = b'0' + (rest % 10) as u8;
-        rest /= 10;
-    }
-    out[0] = b'0' + rest as u8;
+    write_digits(n, out, count);
     Some(count)
 }

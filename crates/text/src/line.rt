@@ -1,76 +1,73 @@
 // A line of the log as text.
-ghost use Rattle.std.specs.Prelude.{◌≡◌, true, length};
+ghost use Rattle.std.specs.Prelude.{◌≡◌, ◌≤◌, true, length};
 ghost use Rattle.text.specs.Lines.{LineOffered, MarkOffered, has_mark, line_text, mark_text};
 ghost use Rattle.text.specs.Writer.{Appends};
 
 use crate::decimal::width;
 use crate::writer::TextWriter;
-use forms::label::{Label, Labels};
+use book::cue::Line;
+use forms::form::{TextForm, WrittenForm};
 use refusal::Refusal;
 
 const HYPHEN: u8 = b'-';
 
-// Whether the format has the label, if there is one.
-fn has_mark(form: &Labels, label: Option<Label>) -> bool
-    ensures { result ≡ has_mark form.now.format label }
+// Whether the form has the label, if there is one.
+fn has_mark<F: WrittenForm>(form: &F, label: Option<F::Value>) -> bool
+    ensures { result ≡ has_mark (F.number form.now) label }
 {
-    match label {
-        None => true,
-        Some(label) => form.has(label),
-    }
+    label.is_none_or(|label| form.read(label).is_ok())
 }
 
-fn mark_width(form: &Labels, label: Option<Label>) -> usize
-    ensures { result ≡ length (mark_text form.now.format label) }
+fn mark_width<F: TextForm>(form: &F, label: Option<F::Value>) -> usize
+    ensures value { result ≡ length (mark_text (F.text form.now) label) }
+    ensures short { result ≤ 32 }
 {
-    match label {
-        None => 1,
-        Some(_) => 11,
-    }
+    label.map_or(1, |label| form.width(label))
 }
 
 // A label, or a hyphen for none.
-fn write_mark(w: &mut TextWriter, form: &Labels, label: Option<Label>) -> Result<(), Refusal>
-    ensures { MarkOffered form.now.format label w.old w.new result }
+fn write_mark<F: TextForm>(
+    w: &mut TextWriter,
+    form: &F,
+    label: Option<F::Value>,
+) -> Result<(), Refusal>
+    ensures { MarkOffered (F.number form.now) (F.text form.now) label w.old w.new result }
 {
+    // A match, since both cases write to `w` and two closures cannot share it.
     match label {
         None => w.byte(HYPHEN),
         Some(label) => w.label(form, label),
     }
 }
 
-// A line whose label the format has, of which nothing is written where it does not fit whole.
-fn write_fields(
+// A line whose label the form has, of which nothing is written where it does not fit whole.
+fn write_fields<F: TextForm>(
     w: &mut TextWriter,
-    form: &Labels,
-    cue: u64,
-    sample: u64,
-    label: Option<Label>,
+    form: &F,
+    line: &Line<F::Value>,
 ) -> Result<(), Refusal>
-    requires { has_mark form.now.format label ≡ true }
-    ensures { Appends (line_text form.now.format cue sample label) w.old w.new result }
+    requires { has_mark (F.number form.now) line.now.label ≡ true }
+    ensures { Appends (line_text (F.text form.now) line.now) w.old w.new result }
 {
-    if !w.has_room(width(cue) + width(sample) + mark_width(form, label) + 3) {
+    if !w.has_room(width(line.cue) + width(line.sample) + mark_width(form, line.label) + 3) {
         return Err(Refusal::ShortBuffer);
     }
-    w.number_then(cue, b' ')?;
-    w.number_then(sample, b' ')?;
-    write_mark(w, form, label)?;
+    w.number_then(line.cue, b' ')?;
+    w.number_then(line.sample, b' ')?;
+    write_mark(w, form, line.label)?;
     w.byte(b'\n')
 }
 
-// Cue, sample and label with one space between; a label that the format lacks is refused.
-pub fn write_line(
+// Cue, sample and label with one space between; a label that the form lacks is refused.
+pub fn write_line<F: TextForm>(
     w: &mut TextWriter,
-    form: &Labels,
-    cue: u64,
-    sample: u64,
-    label: Option<Label>,
+    form: &F,
+    line: &Line<F::Value>,
 ) -> Result<(), Refusal>
-    ensures { LineOffered form.now.format cue sample label w.old w.new result }
+    ensures { LineOffered (F.number form.now) (F.text form.now) line.now w.old w.new result }
 {
-    if !has_mark(form, label) {
+    if !has_mark(form, line.label) {
         return Err(Refusal::NotWritten);
     }
-    write_fields(w, form, cue, sample, label)
+    write_fields(w, form, line)
 }

@@ -1,14 +1,15 @@
 // A writer that fills a buffer from its start, and lends what is not filled yet to those who write into it.
-ghost use Rattle.std.specs.Prelude.{◌≡◌, [], ◌∷◌, ◌++◌};
-ghost use Rattle.forms.specs.LabelText.{label_text};
-ghost use Rattle.forms.specs.Labels.{valid};
+ghost use Rattle.std.specs.Prelude.{◌≡◌, ℕ, ◌≤◌, List, [], ◌∷◌, ◌++◌, length, Ok, Result, is_some};
+ghost use Rattle.std.specs.Fn.{FnOnceReturnsAtMut};
+ghost use Rattle.refusal.specs.declared.Refusal.{Refusal};
 ghost use Rattle.text.specs.Decimal.{digits, put_at_start, room_for};
-ghost use Rattle.text.specs.Writer.{Appends, Offered, has_room, written};
+ghost use Rattle.text.specs.Writer.{Appends, Offered, Puts, has_room, written};
 
 use crate::decimal;
-use forms::label::{Label, Labels};
+use forms::form::{TextForm, WrittenForm};
 use refusal::Refusal;
 
+// The host lends the memory, so there is no String here.
 #[derive(Drop)]
 pub struct TextWriter<'b> {
     out: &'b mut [u8],
@@ -24,7 +25,7 @@ fn copied(out: &mut [u8], word: &[u8]) -> Option<usize>
     if out.len() < count {
         return None;
     }
-    out[0..count].copy_from_slice(word);
+    out[..count].copy_from_slice(word);
     Some(count)
 }
 
@@ -41,11 +42,7 @@ impl<'b> TextWriter<'b> {
     pub fn text(&self) -> &[u8]
         ensures { result.now ≡ written self.now }
     {
-        if self.len < self.out.len() {
-            &self.out[0..self.len]
-        } else {
-            &self.out[0..]
-        }
+        &self.out[..self.len.min(self.out.len())]
     }
 
     // Whether so many bytes more fit.
@@ -55,36 +52,35 @@ impl<'b> TextWriter<'b> {
         self.len <= self.out.len() && count <= self.out.len() - self.len
     }
 
-    pub fn number(&mut self, n: u64) -> Result<(), Refusal>
-        ensures { Appends (digits n) self.old self.new result }
+    // Lends what is not filled yet to `step`, which answers how much of it is filled then.
+    fn fill<F: FnOnce(&mut [u8]) -> Result<usize, Refusal> + Drop>(
+        &mut self,
+        step: F,
+    ) -> Result<(), Refusal>
+        requires callable { F.IsAlwaysCallable step }
+        requires within { (out after : List ℕ) (n : ℕ) → FnOnceReturnsAtMut F.FnOnce step out (Ok n) after → n ≤ length out }
+        ensures { (text : List ℕ) → ((out after : List ℕ) (r : Result ℕ Refusal) → FnOnceReturnsAtMut F.FnOnce step out r after → Puts text out after r)
+            → Appends text self.old self.new result }
     {
         let from = self.len;
         if from > self.out.len() {
             return Err(Refusal::ShortBuffer);
         }
-        match decimal::number(&mut self.out[from..], n) {
-            Some(count) => {
-                self.len = from + count;
-                Ok(())
-            }
-            None => Err(Refusal::ShortBuffer),
-        }
+        let count = step(&mut self.out[from..])?;
+        self.len = from + count;
+        Ok(())
+    }
+
+    pub fn number(&mut self, n: u64) -> Result<(), Refusal>
+        ensures { Appends (digits n) self.old self.new result }
+    {
+        self.fill(|out| decimal::number(out, n).ok_or(Refusal::ShortBuffer))
     }
 
     pub fn word(&mut self, word: &[u8]) -> Result<(), Refusal>
         ensures { Appends word.now self.old self.new result }
     {
-        let at = self.len;
-        if at > self.out.len() {
-            return Err(Refusal::ShortBuffer);
-        }
-        match copied(&mut self.out[at..], word) {
-            Some(count) => {
-                self.len = at + count;
-                Ok(())
-            }
-            None => Err(Refusal::ShortBuffer),
-        }
+        self.fill(|out| copied(out, word).ok_or(Refusal::ShortBuffer))
     }
 
     pub fn byte(&mut self, b: u8) -> Result<(), Refusal>
@@ -94,7 +90,7 @@ impl<'b> TextWriter<'b> {
     }
 
     // A number and the byte after it, of which nothing is written where they do not fit whole.
-    pub(crate) fn number_then(&mut self, n: u64, end: u8) -> Result<(), Refusal>
+    pub fn number_then(&mut self, n: u64, end: u8) -> Result<(), Refusal>
         ensures { Appends (digits n ++ (end ∷ [])) self.old self.new result }
     {
         if !self.has_room(decimal::width(n) + 1) {
@@ -104,22 +100,11 @@ impl<'b> TextWriter<'b> {
         self.byte(end)
     }
 
-    pub fn label(&mut self, form: &Labels, label: Label) -> Result<(), Refusal>
-        ensures { Offered (valid form.now.format label) (label_text form.now.format label) self.old self.new result }
+    // A value's text; a value that the form has not is refused.
+    pub fn label<F: TextForm>(&mut self, form: &F, label: F::Value) -> Result<(), Refusal>
+        ensures { Offered (is_some (F.number form.now label)) (F.text form.now label) self.old self.new result }
     {
-        if !form.has(label) {
-            return Err(Refusal::NotWritten);
-        }
-        let start = self.len;
-        if start > self.out.len() {
-            return Err(Refusal::ShortBuffer);
-        }
-        match form.print(label, &mut self.out[start..]) {
-            Ok(count) => {
-                self.len = start + count;
-                Ok(())
-            }
-            Err(why) => Err(why),
-        }
+        form.read(label)?;
+        self.fill(|out| form.print(label, out))
     }
 }

@@ -8,7 +8,7 @@
 --   tally        how many numbers below a bound pass a test
 --   located      the same answer as a number: how many positions lie before sample s
 -- Assumes nothing.
-use Rattle.std.specs.Prelude.{ℕ, zero, suc, ◌+◌, ◌^◌, ◌<◌, ◌≤◌, Bool, cond, ltb, Ok, Err, Result, nat_lt}
+use Rattle.std.specs.Prelude.{ℕ, zero, suc, ◌+◌, ◌^◌, ◌<◌, ◌≤◌, Bool, if◌then◌else◌, Ok, Err, Result, nat_lt}
 use Rattle.refusal.specs.declared.Refusal.{Refusal}
 use Rattle.refusal.specs.declared.Refusal.TheVariants.{NoPosition}
 
@@ -25,7 +25,7 @@ pub record Sound (m : Meaning) : Type 0 where
   pub never_falls : (p q : ℕ) → p ≤ q → q < m.len → m.rule p ≤ m.rule q
 
 abbrev pub placed : Meaning → ℕ → Result ℕ Refusal
-placed m p = cond (nat_lt p m.len) (Ok (m.rule p)) (Err NoPosition)
+placed m p = if nat_lt p m.len then Ok (m.rule p) else Err NoPosition
 
 -- r is the least position whose sample is at least s, or the length where no position has one
 pub record Least (m : Meaning) (s r : ℕ) : Type 0 where
@@ -39,7 +39,7 @@ Agree m s r = (p : ℕ) → p < m.len → (r ≤ p → s ≤ m.rule p) × (s ≤
 
 abbrev pub tally : (ℕ → Bool) → ℕ → ℕ
 tally test zero = 0
-tally test (suc n) = tally test n + cond (test n) 1 0
+tally test (suc n) = tally test n + (if test n then 1 else 0)
 
 abbrev pub located : Meaning → ℕ → ℕ
-located m s = tally (λ p. ltb (m.rule p) s) m.len
+located m s = tally (λ p. nat_lt (m.rule p) s) m.len

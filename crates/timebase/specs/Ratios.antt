@@ -2,13 +2,14 @@
 --   ratio_within  where the last position has a sample, all have
 --   ratio_sound   its meaning is sound
 --   ratio_least   the least argument that reaches, cut at the length, is what locate answers
+--   ratio_agrees  and it agrees with place
 -- Assumes nothing.
 use Rattle.std.specs.Prelude.{ℕ, ◌-◌, ◌^◌, ◌<◌, ◌≤◌, min}
 use Rattle.std.proofs.Common.{arith}
-use Rattle.timebase.specs.Meaning.{Sound, Least, last_sample}
+use Rattle.timebase.specs.Meaning.{Sound, Least, Agree, last_sample}
 use Rattle.timebase.specs.Scale.{scaled, reached}
 use Rattle.timebase.specs.Ratio.{ratio_meaning}
-use Rattle.timebase.specs.Locates.{least_from, least_capped}
+use Rattle.timebase.specs.Locates.{least_from, least_capped, least_agrees}
 use Rattle.timebase.specs.Scales.{scaled_reached, scaled_rises}
 
 abbrev pub Within : ℕ → ℕ → ℕ → Type 0
@@ -37,3 +38,8 @@ ratio_least n d f s hn hd short within =
     (least_from m t (min (reached n d t) f) (omega arith)
     (λ p h. let both = scaled_reached n d t p hn hd in
     (λ k. both.1 (omega arith), λ k. let e = both.0 k in omega arith)))
+
+pub ratio_agrees : (n d f s : ℕ) → 0 < n → 0 < d → f ≤ 2 ^ 24 → Within n d f →
+    Agree (ratio_meaning n d f) s (min (reached n d (min s (2 ^ 36))) f)
+ratio_agrees n d f s hn hd short within =
+    least_agrees (ratio_meaning n d f) (ratio_sound n d f hn hd short within) s _ (ratio_least n d f s hn hd short within)

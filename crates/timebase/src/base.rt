@@ -5,7 +5,7 @@ ghost use Rattle.timebase.specs.Meaning.{Meaning, Sound, placed, Least, Agree};
 use refusal::Refusal;
 
 // The last sample: samples run from 0 to here.
-pub const LAST_SAMPLE: u64 = 68_719_476_735;
+pub const LAST_SAMPLE: u64 = (1 << 36) - 1;
 
 pub trait Timebase {
     // The length and the rule that a value of the type stands for.

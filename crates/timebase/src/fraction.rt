@@ -2,11 +2,13 @@
 ghost use Rattle.std.specs.Prelude.{◌≡◌, ◌^◌, ◌<◌, ◌≤◌, min, is_some, IfSome};
 ghost use Rattle.timebase.specs.Scale.{scaled, reached, in_range};
 
+use crate::base::LAST_SAMPLE;
+
 // The most that a fraction's two numbers can be: times a sample it still fits 64 bits.
-const MOST: u64 = 134_217_728;
+pub(crate) const MOST: u64 = 1 << 27;
 
 // The largest number that is multiplied, one past the last sample; a larger one counts as this.
-const TOP: u64 = 68_719_476_736;
+const TOP: u64 = LAST_SAMPLE + 1;
 
 #[derive(Clone, Copy)]
 pub struct Fraction {
@@ -32,13 +34,15 @@ impl Fraction {
     }
 
     // x × n ÷ d rounded up; an x past 2^36 counts as 2^36.
+    #[tactic(auto, using(crate::specs::Scales::small_product, crate::proofs::Ceiling::ceiling))]
     pub fn up(&self, x: u64) -> u64
         ensures { result ≡ scaled self.now.n self.now.d (min x (2 ^ 36)) }
     {
-        (x.min(TOP) * self.n + (self.d - 1)) / self.d
+        (x.min(TOP) * self.n).div_ceil(self.d)
     }
 
     // The least x whose `up` is at least s; an s past 2^36 counts as 2^36.
+    #[tactic(auto, using(crate::specs::Scales::small_product))]
     pub fn reach(&self, s: u64) -> u64
         ensures { result ≡ reached self.now.n self.now.d (min s (2 ^ 36)) }
     {

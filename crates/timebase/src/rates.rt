@@ -1,6 +1,6 @@
 // The frame rates of film and video, as a table looked up by row.
 ghost use Rattle.std.specs.Prelude.{◌≡◌};
-ghost use Rattle.timebase.specs.Rates.{frames_of, seconds_of, labels_of};
+ghost use Rattle.timebase.specs.Rates.{row_of};
 
 #[derive(Clone, Copy, PartialEq, Eq, Debug)]
 pub enum FrameRate {
@@ -57,9 +57,7 @@ const FRAME_RATES: [RateRow; 6] = [
 impl FrameRate {
     // The rate's row of the table.
     pub fn row(self) -> RateRow
-        ensures frames { result.frames ≡ frames_of self }
-        ensures seconds { result.seconds ≡ seconds_of self }
-        ensures labels { result.labels ≡ labels_of self }
+        ensures { result ≡ row_of self }
     {
         FRAME_RATES[self as usize]
     }

@@ -1,37 +1,35 @@
 // The ratio base: positions at a steady rate, as frames are.
-ghost use Rattle.std.specs.Prelude.{◌≡◌, ℕ, ◌*◌, ◌^◌, ◌<◌, ◌≤◌, IfOk, Some, None, MatchResult};
-ghost use Rattle.timebase.specs.Meaning.{Least, Agree};
+ghost use Rattle.std.specs.Prelude.{◌≡◌, ℕ, ◌*◌, ◌^◌, ◌<◌, ◌≤◌, IfOk};
+ghost use Rattle.std.specs.Result.{result_err};
+ghost use Rattle.timebase.specs.Meaning.{last_sample};
 ghost use Rattle.timebase.specs.Rates.{frames_of, seconds_of};
 ghost use Rattle.timebase.specs.Ratio.{ratio_meaning, ratio_refusal, counter_refusal};
 ghost use Rattle.timebase.specs.Scale.{scaled};
 ghost use Rattle.timebase.specs.Ratios.{ratio_sound};
 
 use crate::base::{LAST_SAMPLE, Timebase};
-use crate::fraction::Fraction;
+use crate::fraction::{Fraction, MOST};
 use crate::rates::FrameRate;
 use refusal::Refusal;
 
-const MOST: u64 = 134_217_728;
-
-const LONGEST: u64 = 16_777_216;
+// The most positions that a ratio base has.
+const LONGEST: u64 = 1 << 24;
 
 #[derive(Clone, Copy)]
 pub struct Ratio {
     pub(crate) step: Fraction,
     len: u64,
     ghost short: { len ≤ 2 ^ 24 },
-    ghost within: { (p : ℕ) → p < len → scaled step.n step.d p ≤ 68719476735 },
+    ghost within: { (p : ℕ) → p < len → scaled step.n step.d p ≤ last_sample },
 }
 
 impl Ratio {
     // Position p falls on p × n ÷ d samples, rounded up.
     pub fn new(n: u64, d: u64, len: u64) -> Result<Self, Refusal>
-        ensures cases { MatchResult result (λ _. ratio_refusal n d len ≡ None) (λ e. ratio_refusal n d len ≡ Some e) }
+        ensures cases { result_err result ≡ ratio_refusal n d len }
         ensures made { IfOk result (λ b. (b.step.n ≡ n) × (b.step.d ≡ d) × (b.len ≡ len)) }
     {
-        let Some(step) = Fraction::new(n, d, MOST) else {
-            return Err(Refusal::BadMaking);
-        };
+        let step = Fraction::new(n, d, MOST).ok_or(Refusal::BadMaking)?;
         if len > LONGEST {
             return Err(Refusal::BadMaking);
         }
@@ -43,22 +41,14 @@ impl Ratio {
 
     // A frame counter: `rate` frames at `sample_rate` samples a second.
     pub fn frames(rate: FrameRate, sample_rate: u64, len: u64) -> Result<Self, Refusal>
-        ensures cases { MatchResult result (λ _. counter_refusal rate sample_rate len ≡ None) (λ e. counter_refusal rate sample_rate len ≡ Some e) }
+        ensures cases { result_err result ≡ counter_refusal rate sample_rate len }
         ensures made { IfOk result (λ b. (b.step.n ≡ sample_rate * seconds_of rate) × (b.step.d ≡ frames_of rate) × (b.len ≡ len)) }
     {
         let row = rate.row();
-        match sample_rate.checked_mul(row.seconds) {
-            Some(n) => Ratio::new(n, row.frames, len),
-            None => Err(Refusal::BadMaking),
-        }
-    }
-
-    // The least position that falls on s or later, or the length.
-    fn first_from(&self, s: u64) -> u64
-        ensures least { Least (ratio_meaning self.now.step.n self.now.step.d self.now.len) s result }
-        ensures agrees { Agree (ratio_meaning self.now.step.n self.now.step.d self.now.len) s result }
-    {
-        self.step.reach(s).min(self.len)
+        let n = sample_rate
+            .checked_mul(row.seconds)
+            .ok_or(Refusal::BadMaking)?;
+        Ratio::new(n, row.frames, len)
     }
 }
 
@@ -72,6 +62,7 @@ impl Timebase for Ratio {
     }
 
     fn place(&self, p: u64) -> Result<u64, Refusal> {
+        // A plain `if`: `then` would take a closure, and `ok_or` after it.
         if p < self.len {
             Ok(self.step.up(p))
         } else {
@@ -79,7 +70,8 @@ impl Timebase for Ratio {
         }
     }
 
+    #[tactic(auto, using(crate::specs::Ratios::ratio_least, crate::specs::Ratios::ratio_agrees))]
     fn locate(&self, s: u64) -> u64 {
-        self.first_from(s)
+        self.step.reach(s).min(self.len)
     }
 }

@@ -10,41 +10,19 @@ use meter::row::MeterRow;
 use meter::table::MeterTable;
 use refusal::Refusal;
 use std::io;
-use timebase::base::Timebase;
 use timebase::ratio::Ratio;
+use trials::failure::Failure;
+use trials::shown::{show, tell};
 
-fn show<T: Timebase>(rt: &HostRuntime, name: &str, base: &T, positions: &[u64]) -> io::Result<()> {
-    let len = base.len();
-    println!(rt; "{name}: {len} positions")?;
-    for p in positions {
-        match base.place(*p) {
-            Ok(s) => {
-                let back = base.locate(s);
-                let next = base.locate(s.saturating_add(1));
-                println!(rt; "{p} on {s}, located {back} and {next}")?;
-            }
-            Err(why) => {
-                let number = why.number();
-                println!(rt; "{p} refused {number}")?;
-            }
-        }
-    }
-    Ok(())
-}
-
-// 3/4, then 4/4 from tick 1,440, at 480 ticks a quarter.
-fn meter() -> Result<MeterTable, Refusal> {
+// 3/4, then 4/4 from `tick`, at 480 ticks a quarter; a bar line lies on tick 1,440.
+fn meter(tick: u32) -> Result<MeterTable, Refusal> {
     let rows = [
         MeterRow {
             tick: 0,
             nn: 3,
             dd: 2,
         },
-        MeterRow {
-            tick: 1440,
-            nn: 4,
-            dd: 2,
-        },
+        MeterRow { tick, nn: 4, dd: 2 },
     ];
     MeterTable::new(480, &rows)
 }
@@ -57,76 +35,44 @@ fn meters(rt: &HostRuntime, table: MeterTable) -> io::Result<()> {
         let bar = table.bar_reaching(u64::from(t) + 1);
         println!(rt; "tick {t} in a meter of {nn}, the next bar line begins bar {bar} from 0")?;
     }
-    let rows = [
-        MeterRow {
-            tick: 0,
-            nn: 3,
-            dd: 2,
-        },
-        MeterRow {
-            tick: 1439,
-            nn: 4,
-            dd: 2,
-        },
-    ];
-    match MeterTable::new(480, &rows) {
-        Ok(_) => println!(rt; "a row off a bar line is taken"),
-        Err(why) => {
-            let number = why.number();
-            println!(rt; "a row off a bar line is refused {number}")
-        }
-    }
+    tell(rt, "a row off a bar line", meter(1439))
 }
 
 // Every layer on its own, over positions that are samples.
-fn each(rt: &HostRuntime, plain: Ratio, table: MeterTable) -> io::Result<()> {
-    if let Ok(delay) = Delay::new(plain, 48_000) {
-        show(rt, "delay 48000", &delay, &[0, 1, 99_999, 100_000])?;
-    }
-    if let Ok(varispeed) = Varispeed::new(plain, 1001, 1000) {
-        show(
-            rt,
-            "varispeed 1001/1000",
-            &varispeed,
-            &[0, 1, 24_000, 99_999],
-        )?;
-    }
-    if let Ok(start) = Start::new(plain, 90_000) {
-        show(rt, "start 90000", &start, &[0, 9_999, 10_000])?;
-    }
+fn each(rt: &HostRuntime, plain: Ratio, table: MeterTable) -> Result<(), Failure> {
+    let delay = Delay::new(plain, 48_000)?;
+    show(rt, "delay 48000", &delay, &[0, 1, 99_999, 100_000])?;
+    let varispeed = Varispeed::new(plain, 1001, 1000)?;
     show(
         rt,
-        "pull-down",
-        &PullDown::new(plain),
-        &[0, 1, 2, 3, 4, 39_999, 40_000],
+        "varispeed 1001/1000",
+        &varispeed,
+        &[0, 1, 24_000, 99_999],
     )?;
-    show(rt, "bars", &Bars::new(plain, table), &[0, 1, 2, 3, 52, 53])
+    let start = Start::new(plain, 90_000)?;
+    show(rt, "start 90000", &start, &[0, 9_999, 10_000])?;
+    let film = PullDown::new(plain);
+    show(rt, "pull-down", &film, &[0, 1, 2, 3, 4, 39_999, 40_000])?;
+    show(rt, "bars", &Bars::new(plain, table), &[0, 1, 2, 3, 52, 53])?;
+    Ok(())
 }
 
 // Bars on a start on a pull-down on a varispeed on a delay.
-fn pile(rt: &HostRuntime, plain: Ratio, table: MeterTable) -> Result<io::Result<()>, Refusal> {
+fn pile(rt: &HostRuntime, plain: Ratio, table: MeterTable) -> Result<(), Failure> {
     let delay = Delay::new(plain, 1000)?;
     let varispeed = Varispeed::new(delay, 1001, 1000)?;
     let start = Start::new(PullDown::new(varispeed), 100)?;
     let bars = Bars::new(start, table);
-    Ok(show(rt, "all five", &bars, &[0, 1, 2, 20, 21]))
+    show(rt, "all five", &bars, &[0, 1, 2, 20, 21])?;
+    Ok(())
 }
 
-fn main(rt: HostRuntime) -> io::Result<()> {
-    let Ok(frames) = Ratio::new(48_048_000, 30_000, 2_589_409) else {
-        return Err(io::Error::other("no frames"));
-    };
+fn main(rt: HostRuntime) -> Result<(), Failure> {
+    let frames = Ratio::new(48_048_000, 30_000, 2_589_409)?;
     show(&rt, "frames", &frames, &[0, 1, 5, 2_589_408, 2_589_409])?;
-    let Ok(plain) = Ratio::new(1, 1, 100_000) else {
-        return Err(io::Error::other("no samples"));
-    };
-    let Ok(table) = meter() else {
-        return Err(io::Error::other("no meter"));
-    };
+    let plain = Ratio::new(1, 1, 100_000)?;
+    let table = meter(1440)?;
     meters(&rt, table)?;
     each(&rt, plain, table)?;
-    match pile(&rt, plain, table) {
-        Ok(shown) => shown,
-        Err(_) => Err(io::Error::other("no pile")),
-    }
+    pile(&rt, plain, table)
 }

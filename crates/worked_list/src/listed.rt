@@ -16,6 +16,7 @@ use tempo::row::TempoRow;
 use timebase::base::Timebase;
 use timebase::rates::FrameRate;
 use timebase::ratio::Ratio;
+use trials::failure::Failure;
 
 const LABELS: Labels = Labels {
     format: Format::Drop30,
@@ -49,10 +50,7 @@ const METERS: [MeterRow; 2] = [
 fn say(rt: &HostRuntime, asked: &str, of: u64, answer: Result<u64, Refusal>) -> io::Result<()> {
     match answer {
         Ok(n) => println!(rt; "{asked} {of}: {n}"),
-        Err(why) => {
-            let number = why.number();
-            println!(rt; "{asked} {of}: refused {number}")
-        }
+        Err(why) => println!(rt; "{asked} {of}: {why}"),
     }
 }
 
@@ -76,57 +74,61 @@ fn left_out(rt: &HostRuntime, label: Label) -> io::Result<()> {
 fn past_the_day(rt: &HostRuntime, number: u64) -> io::Result<()> {
     match LABELS.write(number) {
         Ok(_) => println!(rt; "a label of {number}"),
-        Err(why) => say(rt, "label of", number, Err(why)),
+        Err(why) => println!(rt; "label of {number}: {why}"),
     }
 }
 
-fn written(rt: &HostRuntime, tick: u64, at: BarPosition) -> Result<io::Result<()>, Refusal> {
+fn written(rt: &HostRuntime, tick: u64, at: BarPosition) -> Result<(), Failure> {
     let form = BarPositions {
         meter: MeterTable::new(480, &METERS)?,
     };
-    let place = form.write(tick)?;
+    let BarPosition {
+        bar,
+        beat,
+        tick: rest,
+    } = form.write(tick)?;
     let back = form.read(at)?;
-    let (bar, beat, rest) = (place.bar, place.beat, place.tick);
-    Ok(println!(rt; "tick {tick}: bar {bar}, beat {beat}, tick {rest}; back {back}"))
+    println!(rt; "tick {tick}: bar {bar}, beat {beat}, tick {rest}; back {back}")?;
+    Ok(())
 }
 
-// Positions on piles that are made for them.
-fn placed(rt: &HostRuntime, worked: Worked) -> Result<io::Result<()>, Refusal> {
-    let frames = Ratio::frames(FrameRate::Ntsc2997, 48_000, 2_589_409)?;
-    let samples = Ratio::new(1, 1, 100_000)?;
-    let ticks = TempoMap::new(rt.alloc(), 480, &TEMPOS, 1000, 44_100)?;
-    Ok(match worked {
-        Worked::Frame { frame, .. } => say(rt, "sample of frame", frame, frames.place(frame)),
-        Worked::Located { sample, .. } => {
-            say(rt, "frame from sample", sample, Ok(frames.locate(sample)))
-        }
-        Worked::Tick { tick, .. } => say(rt, "sample of tick", tick, ticks.place(tick)),
-        Worked::Varied { before, .. } => {
-            let varied = Varispeed::new(samples, 1001, 1000)?;
-            say(rt, "varied", before, varied.place(before))
-        }
-        Worked::Film { frame, .. } => {
-            let film = PullDown::new(samples);
-            say(rt, "field of film frame", frame, film.place(frame))
-        }
-        Worked::Written { tick, at } => written(rt, tick, at)?,
-        Worked::Labelled { .. } | Worked::PastTheDay { .. } | Worked::LeftOut { .. } => Ok(()),
-    })
+fn frames() -> Result<Ratio, Refusal> {
+    Ratio::frames(FrameRate::Ntsc2997, 48_000, 2_589_409)
 }
 
-fn one(rt: &HostRuntime, worked: Worked) -> io::Result<()> {
+fn samples() -> Result<Ratio, Refusal> {
+    Ratio::new(1, 1, 100_000)
+}
+
+// A position asked of what is made for it.
+fn one(rt: &HostRuntime, worked: Worked) -> Result<(), Failure> {
     match worked {
-        Worked::Labelled { number, label } => labelled(rt, number, label),
-        Worked::PastTheDay { number } => past_the_day(rt, number),
-        Worked::LeftOut { label } => left_out(rt, label),
-        _ => match placed(rt, worked) {
-            Ok(said) => said,
-            Err(_) => Err(io::Error::other("no pile")),
-        },
+        Worked::Labelled(number, label) => labelled(rt, number, label)?,
+        Worked::PastTheDay(number) => past_the_day(rt, number)?,
+        Worked::LeftOut(label) => left_out(rt, label)?,
+        Worked::Frame(frame, _) => say(rt, "sample of frame", frame, frames()?.place(frame))?,
+        Worked::Located(sample, _) => {
+            let frame = frames()?.locate(sample);
+            println!(rt; "frame from sample {sample}: {frame}")?
+        }
+        Worked::Tick(tick, _) => {
+            let ticks = TempoMap::new(rt.alloc(), 480, &TEMPOS, 1000, 44_100)?;
+            say(rt, "sample of tick", tick, ticks.place(tick))?
+        }
+        Worked::Varied(before, _) => {
+            let varied = Varispeed::new(samples()?, 1001, 1000)?;
+            say(rt, "varied", before, varied.place(before))?
+        }
+        Worked::Film(frame, _) => {
+            let film = PullDown::new(samples()?);
+            say(rt, "field of film frame", frame, film.place(frame))?
+        }
+        Worked::Written(tick, at) => written(rt, tick, at)?,
     }
+    Ok(())
 }
 
-pub(crate) fn listed(rt: &HostRuntime) -> io::Result<()> {
+pub(crate) fn listed(rt: &HostRuntime) -> Result<(), Failure> {
     for worked in worked_positions() {
         one(rt, worked)?;
     }

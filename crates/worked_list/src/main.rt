@@ -6,9 +6,9 @@ mod tapped;
 
 use crate::listed::listed;
 use crate::tapped::tapped;
-use std::io;
+use trials::failure::Failure;
 
-fn main(rt: HostRuntime) -> io::Result<()> {
+fn main(rt: HostRuntime) -> Result<(), Failure> {
     tapped(&rt)?;
     listed(&rt)
 }

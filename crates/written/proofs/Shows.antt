@@ -3,7 +3,7 @@
 --   stands_edge     nor where locate answers 0 or the length
 --   stands_inside   elsewhere it is the position before the one located
 -- Assumes nothing.
-use Rattle.std.proofs.Common.{◌≡◌, ℕ, zero, suc, ◌+◌, ◌-◌, ◌<◌, ltb, ◌⊎◌, Some, None, sym, refl, ap, ◌∙◌, inl, inr, arith}
+use Rattle.std.proofs.Common.{◌≡◌, ℕ, zero, suc, ◌+◌, ◌-◌, ◌<◌, nat_lt, ◌⊎◌, Some, None, sym, refl, ap, ◌∙◌, inl, inr, arith}
 use Rattle.std.proofs.lemmas.Bool.{cases_lt, le-ltb, lt-ltb, cond-true, cond-false}
 use Rattle.timebase.specs.Meaning.{Meaning, Sound, Least, last_sample, located}
 use Rattle.timebase.specs.Locates.{least_located, located_least}
@@ -11,13 +11,13 @@ use Rattle.written.specs.Current.{last_before, standing}
 
 none_at_length : (n : ℕ) → last_before n n ≡ None
 none_at_length zero = refl
-none_at_length (suc n) = cond-false (ltb (suc n) (suc n)) (Some n) None (le-ltb (suc n) (suc n) (omega arith))
+none_at_length (suc n) = cond-false (nat_lt (suc n) (suc n)) (Some n) None (le-ltb (suc n) (suc n) (omega arith))
 
 one_inside : (n r : ℕ) → 0 < r → r < n → last_before n r ≡ Some (r - 1)
 one_inside n zero some h = absurd (omega arith)
 one_inside n (suc r) some h =
     let e : r ≡ suc r - 1 = omega arith in
-    cond-true (ltb (suc r) n) (Some r) None (lt-ltb (suc r) n h) ∙ ap Some e
+    cond-true (nat_lt (suc r) n) (Some r) None (lt-ltb (suc r) n h) ∙ ap Some e
 
 pub stands_edge : (m : Meaning) (s r : ℕ) → Sound m → Least m (s + 1) r → (r ≡ 0) ⊎ (r ≡ m.len) → None ≡ standing m s
 stands_edge m s r sound least edge =

@@ -5,15 +5,15 @@
 --                and none where no position follows
 --   current_at   its written form, where it has one
 -- Assumes nothing.
-use Rattle.std.specs.Prelude.{ℕ, zero, suc, ◌+◌, cond, Some, None, Option, nat_lt}
+use Rattle.std.specs.Prelude.{ℕ, zero, suc, ◌+◌, if◌then◌else◌, Some, None, Option, nat_lt}
 use Rattle.timebase.specs.Meaning.{Meaning, located}
 
 abbrev pub shown : {V : Type 0} → ℕ → (ℕ → V) → ℕ → Option V
-shown count value p = cond (nat_lt p count) (Some (value p)) None
+shown count value p = if nat_lt p count then Some (value p) else None
 
 abbrev pub last_before : ℕ → ℕ → Option ℕ
 last_before len zero = None
-last_before len (suc p) = cond (nat_lt (suc p) len) (Some p) None
+last_before len (suc p) = if nat_lt (suc p) len then Some p else None
 
 abbrev pub standing : Meaning → ℕ → Option ℕ
 standing m s = last_before m.len (located m (s + 1))

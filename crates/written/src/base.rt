@@ -14,7 +14,7 @@ pub trait WrittenTimebase: Timebase {
     ghost form: { Self → ℕ → Option Self.Shown };
 
     fn current(&self, s: u64) -> Option<Self::Shown>
-        ensures { result ≡ current_at (Self.Timebase.meaning self.now) (form self.now) s };
+        ensures { result ≡ current_at (Self.meaning self.now) (form self.now) s };
 }
 
 // Any pile with any written form.
@@ -34,7 +34,7 @@ impl<T, F> Written<T, F> {
 }
 
 impl<T: Timebase, F> Timebase for Written<T, F> {
-    ghost meaning = { λ t. T.Timebase.meaning t.pile };
+    ghost meaning = { λ t. T.meaning t.pile };
 
     ghost sound = { Prim.search rules };
 
@@ -54,25 +54,23 @@ impl<T: Timebase, F> Timebase for Written<T, F> {
 impl<T: Timebase, F: WrittenForm> WrittenTimebase for Written<T, F> {
     type Shown = F::Value;
 
-    ghost form = { λ t. shown (F.WrittenForm.count t.form) (F.WrittenForm.value t.form) };
+    ghost form = { λ t. shown (F.count t.form) (F.value t.form) };
 
     fn current(&self, s: u64) -> Option<F::Value> {
         let p = standing_at(&self.pile, s)?;
-        match self.form.write(p) {
-            Ok(v) => Some(v),
-            Err(_) => None,
-        }
+        self.form.write(p).ok()
     }
 }
 
 // The position current at a sample.
 fn standing_at<T: Timebase>(pile: &T, s: u64) -> Option<u64>
-    ensures { result ≡ standing (T.Timebase.meaning pile.now) s }
+    ensures { result ≡ standing (T.meaning pile.now) s }
 {
     if s > LAST_SAMPLE {
         return None;
     }
     let next = pile.locate(s + 1);
+    // No chain: a filter over the position before `next` would not look at it.
     if next == 0 || next == pile.len() {
         return None;
     }

@@ -5,12 +5,12 @@ ghost use Rattle.meter.specs.BarLines.{FirstAt, row_at};
 ghost use Rattle.meter.specs.Lies.{BarIn, TickIn};
 ghost use Rattle.meter.specs.Tables.{rows_of, bar_tick, bars_to, Lines};
 
-use crate::row::MeterRow;
-use crate::rules::{bar_ticks, beat_ticks};
+use crate::row::{CountedRow, MeterRow};
 use crate::table::MeterTable;
+use timebase::base::LAST_SAMPLE;
 
 // The longest that a timebase can be.
-const MOST_BARS: u64 = 68_719_476_736;
+const MOST_BARS: u64 = LAST_SAMPLE + 1;
 
 impl MeterTable {
     // The tick at which bar `p` + 1 begins, from the row in which it lies.
@@ -19,9 +19,9 @@ impl MeterTable {
         ensures value { result ≡ bar_tick self.now p }
         ensures lines { Lines self.now }
     {
-        let row = self.rows[i];
-        let bar = bar_ticks(self.division, row) as u64;
-        row.tick as u64 + (p - self.before[i] as u64) * bar
+        let CountedRow { row, before } = self.rows[i];
+        let bar = u64::from(self.meter(i).bar_ticks());
+        u64::from(row.tick) + (p - u64::from(before)) * bar
     }
 
     // The first bar that begins at or after tick `t`, from the row in which the tick lies.
@@ -30,9 +30,9 @@ impl MeterTable {
         ensures value { result ≡ bars_to self.now t }
         ensures first { FirstAt (bar_tick self.now) t result }
     {
-        let row = self.rows[i];
-        let bar = bar_ticks(self.division, row) as u64;
-        self.before[i] as u64 + (t - row.tick as u64).div_ceil(bar)
+        let CountedRow { row, before } = self.rows[i];
+        let bar = u64::from(self.meter(i).bar_ticks());
+        u64::from(before) + (t - u64::from(row.tick)).div_ceil(bar)
     }
 
     // The tick at which bar `p` + 1 begins. No timebase is longer than 2^36, and from there on the answer stays.
@@ -56,16 +56,17 @@ impl MeterTable {
     pub fn meter_at(&self, t: u64) -> MeterRow
         ensures { result ≡ row_at (rows_of self.now) t }
     {
-        self.rows[self.row_of_tick(t)]
+        self.rows[self.row_of_tick(t)].row
     }
 
-    // The beats of a bar, and the ticks of a beat, of the meter that is current at tick `t`.
+    // The beats of a bar, and the ticks of a beat, of the meter that is current at tick `t`. A pair, and no struct, since
+    // each caller takes it apart where it gets it.
     pub fn beats_at(&self, t: u64) -> (u8, u32)
         ensures beats { result.0 ≡ (row_at (rows_of self.now) t).nn }
         ensures value { result.1 ≡ beat_of self.now.division (row_at (rows_of self.now) t) }
         ensures bound { 1 ≤ result.1 }
     {
-        let row = self.meter_at(t);
-        (row.nn, beat_ticks(self.division, row))
+        let meter = self.meter(self.row_of_tick(t));
+        (meter.row.nn, meter.beat_ticks())
     }
 }

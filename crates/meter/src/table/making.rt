@@ -1,39 +1,50 @@
 // Making a meter table out of rows that keep the rules, and the division that it was made for.
-ghost use Rattle.std.specs.Prelude.{◌≡◌, ℕ, ◌<◌, ◌≤◌, true, length, take, slice_index};
+ghost use Rattle.std.specs.Prelude.{◌≡◌, ℕ, ◌<◌, ◌≤◌, true, length, slice_index_or};
 ghost use Rattle.meter.specs.Rules.{kept};
 ghost use Rattle.meter.specs.BarLines.{bars_before};
+ghost use Rattle.meter.specs.Counted.{no_counted, rows_in};
 ghost use Rattle.meter.specs.Tables.{Making};
 
-use crate::row::MeterRow;
-use crate::rules::{bar_ticks, keeps_rules};
+use crate::beats::Meter;
+use crate::row::{CountedRow, MeterRow};
+use crate::rules::keeps_rules;
 use crate::table::MeterTable;
 use refusal::Refusal;
 
-// The rows, in a place of the table's own.
-fn copy_rows(rows: &[MeterRow]) -> [MeterRow; 64]
-    requires { length rows.now ≤ 64 }
-    ensures { take (length rows.now) result ≡ rows.now }
-{
-    let mut own = [MeterRow {
+const NO_ROW: CountedRow = CountedRow {
+    row: MeterRow {
         tick: 0,
         nn: 0,
         dd: 0,
-    }; 64];
-    own[0..rows.len()].copy_from_slice(rows);
-    own
-}
+    },
+    before: 0,
+};
 
-// How many bars lie before each row.
-fn count_bars(division: u32, rows: &[MeterRow]) -> [u32; 64]
+// The rows, and with each how many bars lie before it.
+fn counted(division: u32, rows: &[MeterRow]) -> [CountedRow; 64]
     requires { kept division rows.now ≡ true }
-    ensures { (k : ℕ) → k < length rows.now → slice_index result k ≡ bars_before division rows.now k }
+    ensures rows { rows_in (length rows.now) result ≡ rows.now }
+    ensures before { (k : ℕ) → k < length rows.now → (slice_index_or result k no_counted).before ≡ bars_before division rows.now k }
 {
-    let mut before = [0u32; 64];
-    for i in 0..rows.len() - 1 {
-        let gap = (rows[i + 1].tick - rows[i].tick) / bar_ticks(division, rows[i]);
-        before[i + 1] = before[i] + gap;
+    let mut held = [NO_ROW; 64];
+    // The first row stands before itself, no bar away. The rows go in by place: after a `zip` with `iter_mut` no proof
+    // would know what `held` holds.
+    let mut last = CountedRow {
+        row: rows[0],
+        before: 0,
+    };
+    for (i, row) in rows.iter().enumerate() {
+        let meter = Meter {
+            division,
+            row: last.row,
+        };
+        last = CountedRow {
+            row: *row,
+            before: last.before + meter.bars_to(*row),
+        };
+        held[i] = last;
     }
-    before
+    held
 }
 
 impl MeterTable {
@@ -46,8 +57,7 @@ impl MeterTable {
         }
         Ok(MeterTable {
             division,
-            rows: copy_rows(rows),
-            before: count_bars(division, rows),
+            rows: counted(division, rows),
             len: rows.len(),
         })
     }

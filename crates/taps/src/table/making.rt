@@ -17,9 +17,7 @@ impl Taps {
         if !climbs(samples) {
             return Err(Refusal::TapsFall);
         }
-        match Vec::from_slice(heap, samples) {
-            Ok(samples) => Ok(Taps { samples }),
-            Err(_) => Err(Refusal::NoMemory),
-        }
+        let samples = Vec::from_slice(heap, samples)?;
+        Ok(Taps { samples })
     }
 }

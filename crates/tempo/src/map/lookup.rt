@@ -1,9 +1,9 @@
 // Ticks, samples and tempos looked up in a tempo map.
-ghost use Rattle.std.specs.Prelude.{◌≡◌, ◌+◌, ◌/◌, ◌%◌, ◌^◌, ◌<◌, ◌≤◌, min, length, slice_index, slice_index_or};
+ghost use Rattle.std.specs.Prelude.{◌≡◌, ◌+◌, ◌/◌, ◌%◌, ◌^◌, ◌≤◌, min};
 ghost use Rattle.timebase.specs.Meaning.{Least, Agree};
-ghost use Rattle.tempo.specs.Lies.{TickIn, MicrosIn, Parted};
+ghost use Rattle.tempo.specs.Lies.{Parted};
 ghost use Rattle.tempo.specs.Maps.{rows_of, map_micros, samples_of, tempo_meaning, AddsUp};
-ghost use Rattle.tempo.specs.Micros.{no_row, row_at};
+ghost use Rattle.tempo.specs.Micros.{row_at};
 
 use crate::map::TempoMap;
 use crate::row::TempoRow;
@@ -13,7 +13,7 @@ fn ticks_for(gap: u64, q: u32) -> u64
     requires { 1 ≤ q }
     ensures { result ≡ gap / q + min 1 (gap % q) }
 {
-    gap.div_ceil(q as u64)
+    gap.div_ceil(u64::from(q))
 }
 
 impl TempoMap {
@@ -21,39 +21,7 @@ impl TempoMap {
     pub(crate) fn ticks(&self) -> u64
         ensures { result ≡ self.now.last + 1 }
     {
-        self.last as u64 + 1
-    }
-
-    fn row(&self, i: usize) -> TempoRow
-        requires { i < length (rows_of self.now) }
-        ensures { result ≡ slice_index_or (rows_of self.now) i no_row }
-    {
-        self.rows[i]
-    }
-
-    fn sum(&self, i: usize) -> u64
-        requires { i < length (rows_of self.now) }
-        ensures { result ≡ slice_index self.now.sums.items i }
-    {
-        self.sums[i]
-    }
-
-    // The sample of tick `p`, from the row in which it lies.
-    fn sample_in_row(&self, i: usize, p: u64) -> u64
-        requires { (TickIn self.now p i) × (p ≤ self.now.last) }
-        ensures { result ≡ samples_of self.now (map_micros self.now p) }
-    {
-        let row = self.row(i);
-        self.sample_after(self.sum(i), (p - row.tick as u64) * row.q as u64)
-    }
-
-    // The first tick at or after the sum `x`, from the row in which it lies.
-    fn tick_in_row(&self, i: usize, x: u64) -> u64
-        requires { (MicrosIn self.now x i) × (x ≤ 2 ^ 62) }
-        ensures { Parted (map_micros self.now) x result }
-    {
-        let row = self.row(i);
-        row.tick as u64 + ticks_for(x - self.sum(i), row.q)
+        u64::from(self.last) + 1
     }
 
     // The sample of tick `p`, which is not past the last.
@@ -61,7 +29,8 @@ impl TempoMap {
         requires { p ≤ self.now.last }
         ensures { result ≡ samples_of self.now (map_micros self.now p) }
     {
-        self.sample_in_row(self.row_of_tick(p), p)
+        let held = self.row_of_tick(p);
+        self.sample_after(held.sum, held.row.stretch(p))
     }
 
     // The first tick at or after the sum `x`.
@@ -69,7 +38,8 @@ impl TempoMap {
         requires { x ≤ 2 ^ 62 }
         ensures { Parted (map_micros self.now) x result }
     {
-        self.tick_in_row(self.row_of_sum(x), x)
+        let held = self.row_of_sum(x);
+        u64::from(held.row.tick) + ticks_for(x - held.sum, held.row.q)
     }
 
     // The least tick that falls on `s` or later, or the length.
@@ -80,17 +50,11 @@ impl TempoMap {
         self.tick_reaching(self.reach(s)).min(self.ticks())
     }
 
-    fn current(&self, t: u64) -> TempoRow
-        ensures { result ≡ row_at (rows_of self.now) t }
-    {
-        self.row(self.row_of_tick(t))
-    }
-
     // The row whose tempo is current at tick `t`.
     pub fn tempo_at(&self, t: u64) -> TempoRow
         ensures value { result ≡ row_at (rows_of self.now) t }
         ensures adds_up { AddsUp self.now }
     {
-        self.current(t)
+        self.row_of_tick(t).row
     }
 }

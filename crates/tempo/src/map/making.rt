@@ -2,11 +2,11 @@
 ghost use Rattle.std.specs.Prelude.{◌≡◌, IfOk};
 ghost use Rattle.tempo.specs.Maps.{Making, AddsUp};
 
+use crate::draft::Draft;
 use crate::map::TempoMap;
 use crate::rates::rate_row;
 use crate::row::TempoRow;
-use crate::rules::keeps_rules;
-use crate::sums::running_sums;
+use crate::sums::summed_rows;
 use refusal::Refusal;
 use std::alloc::Global;
 
@@ -22,27 +22,22 @@ impl TempoMap {
         ensures cases { Making division rows.now last sample_rate result }
         ensures adds_up { IfOk result (λ m. AddsUp m) }
     {
-        if !keeps_rules(division, rows, last) {
+        let draft = Draft {
+            division,
+            rows,
+            last,
+        };
+        if !draft.keeps_rules() {
             return Err(Refusal::BadMaking);
         }
-        let Some(rate) = rate_row(sample_rate) else {
-            return Err(Refusal::BadMaking);
-        };
-        let sums = match running_sums(heap, rows) {
-            Ok(sums) => sums,
-            Err(why) => return Err(why),
-        };
-        match Vec::from_slice(heap, rows) {
-            Ok(rows) => Ok(TempoMap {
-                division,
-                rows,
-                sums,
-                last,
-                sample_rate,
-                rate,
-            }),
-            Err(_) => Err(Refusal::NoMemory),
-        }
+        let rate = rate_row(sample_rate).ok_or(Refusal::BadMaking)?;
+        let rows = summed_rows(heap, rows)?;
+        Ok(TempoMap {
+            division,
+            rows,
+            last,
+            rate,
+        })
     }
 
     // The ticks of a quarter note.

@@ -12,7 +12,7 @@ impl TempoMap {
     fn span(&self) -> u64
         ensures { result ≡ self.now.division * self.now.rate.micros }
     {
-        self.division as u64 * self.rate.micros
+        u64::from(self.division) * self.rate.micros
     }
 
     // The sample on which a sum falls.

@@ -1,9 +1,10 @@
-use Rattle.std.proofs.Common.{rules}
-use Rattle.operator.proofs.Sayings.{read_back}
+use Rattle.std.proofs.Common.{arith}
+use Rattle.std.proofs.lemmas.Grind.{common_steps}
+use Rattle.std.proofs.lemmas.Str.{IsUtf8-from_is_utf8, is_utf8-from_IsUtf8}
 use Rattle.operator.proofs.line.read_words.Goals as goal
 
-pub returns-then-not-is_text : goal.returns-then-not-is_text
-returns-then-not-is_text c = record { value = search rules; reads_back = read_back }
+pub returns-in_err-line : goal.returns-in_err-line
+returns-in_err-line c = grind (arith, common_steps, IsUtf8-from_is_utf8)
 
 pub returns : goal.returns
-returns c = record { value = search rules; reads_back = read_back }
+returns c = grind (arith, common_steps, is_utf8-from_IsUtf8)

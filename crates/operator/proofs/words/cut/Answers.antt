@@ -1,16 +1,17 @@
-use Rattle.operator.proofs.Cutting.{words_none, words_more, words_cut_parts, words_all}
+use Rattle.std.proofs.Common.{ℕ, eqb, None, arith}
+use Rattle.std.proofs.ByRecursion.{All-from_get_or}
+use Rattle.std.proofs.lemmas.List.Splits.{slice_split_first}
+use Rattle.std.proofs.lemmas.Str.Pattern.{split_parts}
+use Rattle.operator.proofs.Cutting.{words_last}
 use Rattle.operator.proofs.words.cut.Goals as goal
 
-pub loop-i-init : goal.loop-i-init
-loop-i-init c = words_none c.args.line.now
+pub returns-in-Some : goal.returns-in-Some
+returns-in-Some c =
+    let cut = c.in-Some.ensures.byte (omega arith) (λ w o h. h) in
+    let parts = slice_split_first (λ (b : ℕ). eqb b 32) c.args.line.now 0 cut.2 in
+    cc
 
-pub loop-i-preserved : goal.loop-i-preserved
-loop-i-preserved c =
-    words_more c.args.line.now c.loop-i.i c.loop-i-test.true c.if-b-eq32.false c.loop-i.invariant
-
-pub returns-then-b-eq32 : goal.returns-then-b-eq32
-returns-then-b-eq32 c =
-    words_cut_parts c.args.line.now c.loop-i.i c.loop-i-test.true c.if-b-eq32.true c.loop-i.invariant
-
-pub returns : goal.returns
-returns c = words_all c.args.line.now c.loop-i.i c.loop-i-test.false c.loop-i.invariant
+pub returns-in-None : goal.returns-in-None
+returns-in-None c =
+    let spaceless = split_parts 32 c.args.line.now None c.in-None.ensures.cases (omega arith) in
+    words_last c.args.line.now (All-from_get_or _ _ 0 spaceless)

@@ -1,5 +1,4 @@
 use Rattle.layers.proofs.Piles.{piles_agree}
-use Rattle.history.proofs.Keeping.{kept_all}
 use Rattle.history.proofs.Once.{every_crossing_is_logged_once, a_play_answers_its_lines}
 use Rattle.history.proofs.Cutting.{cutting}
 use Rattle.session.proofs.carry.carry_out.Goals as goal
@@ -10,5 +9,5 @@ returns g c = record {
   agree = piles_agree;
   once = every_crossing_is_logged_once _ _;
   counts = a_play_answers_its_lines _ _;
-  cutting = cutting _ _ (λ w sound calls. kept_all w calls);
+  cutting = cutting _ _;
 }

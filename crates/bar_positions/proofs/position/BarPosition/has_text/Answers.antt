@@ -1,23 +1,8 @@
-use Rattle.std.proofs.Common.{◌≡◌, ◌≤◌, length, is_ok, ap, ◌∙◌, arith}
-use Rattle.std.specs.Str.{bytes_eq}
-use Rattle.std.proofs.lemmas.Slice.Eq.{slice_eq-Decides, bytes_eq-Decides}
+use Rattle.std.proofs.Common.{◌≤◌, length, is_ok, ap, ◌∙◌, arith}
 use Rattle.std.proofs.lemmas.Bool.{both_ways}
-use Rattle.std.proofs.lemmas.Bool.Decides.{same_from_decides, Decides-eqb}
 use Rattle.bar_positions.specs.Spellings.{position_text}
 use Rattle.bar_positions.proofs.Threes.{text_short, alone}
 use Rattle.bar_positions.proofs.position.BarPosition.has_text.Goals as goal
-
-pub returns-then-is_ok : goal.returns-then-is_ok
-returns-then-is_ok c =
-    let v = c.args.self in
-    let few = text_short v (omega arith) (omega arith) (omega arith) in
-    let room : length (position_text v) ≤ length c.new-w.result.out.now = rw c.new-w.ensures.buffer few in
-    let own = alone (position_text v) c.new-w.result c.write_text.new.w c.write_text.result
-    c.new-w.ensures.len room c.write_text.ensures in
-    let is : c.text.result.now ≡ position_text v = c.text.ensures ∙ own.1 in
-    same_from_decides _ _ (slice_eq-Decides Decides-eqb _ _ _ c.eq.ensures)
-    (bytes_eq-Decides c.text.result.now c.args.text.now)
-    ∙ ap (λ xs. bytes_eq xs c.args.text.now) is
 
 pub returns-else-is_ok : goal.returns-else-is_ok
 returns-else-is_ok c =

@@ -1,19 +1,29 @@
-use Rattle.std.proofs.Common.{◌+◌, subst}
-use Rattle.deck.specs.Runs.{Logs}
-use Rattle.deck.proofs.Rows.{logs_none, logs_more, logs_all, same_world}
+use Rattle.std.proofs.Common.{◌≡◌, refl, ap, ◌∙◌, length, ⊎_elim, arith}
+use Rattle.std.specs.List.{between}
+use Rattle.book.specs.Held.{cues}
+use Rattle.deck.specs.Runs.{world_of}
+use Rattle.deck.proofs.Rows.{appends_row}
 use Rattle.deck.proofs.state.Deck.log_row.Goals as goal
 
-pub loop-i-init : goal.loop-i-init
-loop-i-init g c = logs_none _ _ _
-
-pub loop-i-preserved : goal.loop-i-preserved
-loop-i-preserved g c =
+pub returns-in-Some : goal.returns-in-Some
+returns-in-Some g c =
     let d = c.args.self.now in
-    let e = c.loop-i.self in
-    let i = c.loop-i.i in
-    let alike = same_world g.C.Timebase.meaning g.F.WrittenForm.number g.L.Timebase.meaning g.L.WrittenTimebase.form d e c.loop-i.invariant.keeps in
-    logs_more _ c.args.from i d e c.log_one.new.self c.loop-i.auto.i c.loop-i.invariant
-    (subst (λ w. Logs w i (i + 1) e c.log_one.new.self) alike c.log_one.ensures)
+    let w = world_of g.C.Timebase.meaning g.F.WrittenForm.number g.L.Timebase.meaning g.L.WrittenTimebase.form d in
+    let from = c.args.row.start in
+    let to = c.args.row.end in
+    let row : c.in-Some.cues.now ≡ between from to (cues d.book) = c.in-Some.ensures.lookup.0.2 ∙ ap (between from to) c.held.ensures in
+    record {
+      books = refl;
+      heads = refl;
+      keeps = record { piles = refl; forms = refl; frames = refl; places = refl; lines = c.log_all.ensures.room };
+      rows = appends_row w (cues d.book) c.in-Some.cues.now from to d.log c.log_all.new.log row (c.log_all.ensures.lines w refl refl);
+    }
 
-pub returns : goal.returns
-returns g c = logs_all _ _ _ c.loop-i.i _ _ c.loop-i.auto.i-end c.loop-i-test.false c.loop-i.invariant
+pub returns-in_default : goal.returns-in_default
+returns-in_default g c =
+    record {
+      books = refl;
+      heads = refl;
+      keeps = record { piles = refl; forms = refl; frames = refl; places = refl; lines = refl };
+      rows = λ up inside good fits. absurd (let same = ap length c.held.ensures in ⊎_elim (λ l. omega arith) (λ l. omega arith) c.in_default.ensures.lookup.0);
+    }

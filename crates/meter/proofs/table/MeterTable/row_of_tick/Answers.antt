@@ -1,15 +1,20 @@
-use Rattle.std.proofs.Common.{◌≡◌, ℕ, ◌+◌, ◌<◌, get_or, subst, arith}
-use Rattle.meter.specs.BarLines.{no_row}
-use Rattle.meter.proofs.Held.{some_held, tick_first, tick_in}
+use Rattle.std.proofs.Common.{rules, arith}
+use Rattle.rows.proofs.Beginning.{Last, last_begun}
+use Rattle.rows.proofs.Cutting.{begun_from_clause}
+use Rattle.meter.specs.Counted.{no_counted}
+use Rattle.meter.proofs.Held.{held, some_held}
+use Rattle.meter.proofs.Finding.{tick_of, tick_first, ticks_rise, tick_in}
 use Rattle.meter.proofs.table.MeterTable.row_of_tick.Goals as goal
 
-pub loop-high-init : goal.loop-high-init
-loop-high-init c =
-    (some_held c.args.self.now, omega arith, omega (arith, tick_first c.args.self.now), λ h. omega arith)
+last : (c : goal.After-partition_point) → Last tick_of (held c.args.self.now) no_counted c.args.t c.partition_point.result
+last c =
+    let m = c.args.self.now in
+    let point = c.partition_point.ensures in
+    last_begun tick_of (held m) no_counted c.args.t _ (omega (arith, some_held m, m.held)) (omega (arith, tick_first m))
+    (begun_from_clause tick_of c.args.t (held m) _ point.bound point.partitioned (ticks_rise m) (λ a b f k. search rules))
+
+pub overflow_sub-result : goal.overflow_sub-result
+overflow_sub-result c = (last c).some
 
 pub returns : goal.returns
-returns c =
-    let m = c.args.self.now in
-    let next : c.loop-high.high ≡ c.loop-high.low + 1 = omega arith in
-    tick_in m c.loop-high.low c.args.t (omega arith) c.loop-high.invariant.2
-    (subst (λ (x : ℕ). x < m.len → c.args.t < (get_or m.rows x no_row).tick) next c.loop-high.invariant.3)
+returns c = tick_in c.args.self.now c.args.t _ (last c)

@@ -1,7 +1,17 @@
-use Rattle.tempo.specs.Held.{sums_begun, sum_in}
+use Rattle.std.proofs.Common.{rules}
+use Rattle.tempo.proofs.Answering.{sum_searched, row_read}
 use Rattle.tempo.proofs.map.TempoMap.row_of_sum.Goals as goal
+
+pub overflow_sub-begun : goal.overflow_sub-begun
+overflow_sub-begun c =
+    let point = c.partition_point-begun.ensures in
+    (sum_searched c.args.self.now c.args.x _ _ _ _
+    (c.deref.ensures.value, point.bound, point.partitioned, λ a r q k. search rules)).0
 
 pub returns : goal.returns
 returns c =
     let m = c.args.self.now in
-    sum_in m _ _ (sums_begun m _ _ _ c.as_slice.ensures.value c.begun_by.ensures.parted)
+    let point = c.partition_point-begun.ensures in
+    let found = sum_searched m c.args.x _ _ _ _
+    (c.deref.ensures.value, point.bound, point.partitioned, λ a r q k. search rules) in
+    (_, found.1, row_read m _ c.index.result.now found.1.there c.index.ensures)

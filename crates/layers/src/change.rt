@@ -1,0 +1,28 @@
+// What a layer does to the samples or the positions of the timebase below it: a change of numbers.
+ghost use Rattle.std.specs.Prelude.{◌≡◌, ℕ, ◌^◌, min};
+ghost use Rattle.layers.specs.Layers.{Pair, Ahead};
+
+use timebase::base::LAST_SAMPLE;
+
+// 2^36: the sample after the last, and the longest length. A change takes a larger number for this one.
+pub const END: u64 = LAST_SAMPLE + 1;
+
+pub trait Change {
+    ghost up: { Self → ℕ → ℕ };
+
+    ghost back: { Self → ℕ → ℕ };
+
+    fn up(&self, n: u64) -> u64
+        ensures { result ≡ up self.now (min n (2 ^ 36)) };
+
+    // The least number whose `up` is at least n.
+    fn back(&self, n: u64) -> u64
+        ensures { result ≡ back self.now (min n (2 ^ 36)) };
+
+    ghost pair: { (g : Self) → Pair (up g) (back g) };
+}
+
+// A change that never goes to a number before.
+pub trait AheadChange: Change {
+    ghost ahead: { (g : Self) → Ahead (Self.up g) };
+}

@@ -1,7 +1,0 @@
--- What is read so far are digits, and `n` is their value.
-use Rattle.std.proofs.Common.{◌≡◌, take}
-use Rattle.std.specs.Str.Parse.{digits_value, AllDigits}
-use Rattle.text.proofs.decimal.read_number.Given as goal
-
-abbrev pub invariant-loop-b : goal.invariant-loop-b
-invariant-loop-b l = (l.n ≡ digits_value 10 (take l.b-index l.word)) × AllDigits 10 (take l.b-index l.word)
