@@ -26,34 +26,34 @@ struct Bar {
     number: u64,
     start: u64,
     beats: u8,
-    beat: u32,
+    beat_ticks: u32,
     ghost named: { number < 65535 },
     ghost early: { start ≤ 2 ^ 39 },
-    ghost some: { 1 ≤ beat },
+    ghost some: { 1 ≤ beat_ticks },
 }
 
 impl BarPosition {
     // Whether beat and tick stand in a bar.
     fn stands_in(self, bar: Bar) -> bool
-        ensures { result ≡ stands_in bar.beats bar.beat self }
+        ensures { result ≡ stands_in bar.beats bar.beat_ticks self }
     {
-        1 <= self.beat && self.beat <= bar.beats && self.tick < bar.beat
+        1 <= self.beat && self.beat <= bar.beats && self.tick < bar.beat_ticks
     }
 
     // The position's tick, in its bar.
     fn tick_in(self, bar: Bar) -> u64
         requires { 1 ≤ self.beat }
-        ensures { result ≡ tick_in bar.start bar.beat self }
+        ensures { result ≡ tick_in bar.start bar.beat_ticks self }
     {
-        bar.start + u64::from(self.beat - 1) * u64::from(bar.beat) + u64::from(self.tick)
+        bar.start + u64::from(self.beat - 1) * u64::from(bar.beat_ticks) + u64::from(self.tick)
     }
 
     // The position `rest` ticks into a bar.
     fn written_in(bar: Bar, rest: u64) -> BarPosition
-        requires { rest < 64 * bar.beat }
-        ensures { result ≡ written_in bar.number bar.beat rest }
+        requires { rest < 64 * bar.beat_ticks }
+        ensures { result ≡ written_in bar.number bar.beat_ticks rest }
     {
-        let beat = u64::from(bar.beat);
+        let beat = u64::from(bar.beat_ticks);
         BarPosition {
             bar: (bar.number + 1) as u16,
             beat: (rest / beat + 1) as u8,
@@ -84,15 +84,15 @@ impl BarPositions {
         ensures number { result.number ≡ number }
         ensures start { result.start ≡ bar_tick self.now.meter number }
         ensures beats { result.beats ≡ (meter_of self.now.meter.division (rows_of self.now.meter) number).nn }
-        ensures beat { result.beat ≡ beat_of self.now.meter.division (meter_of self.now.meter.division (rows_of self.now.meter) number) }
+        ensures beat { result.beat_ticks ≡ beat_of self.now.meter.division (meter_of self.now.meter.division (rows_of self.now.meter) number) }
     {
         let start = self.start_of(number);
-        let (beats, beat) = self.meter.beats_at(start);
+        let (beats, beat_ticks) = self.meter.beats_at(start);
         Bar {
             number,
             start,
             beats,
-            beat,
+            beat_ticks,
         }
     }
 

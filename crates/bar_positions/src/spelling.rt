@@ -1,9 +1,8 @@
 // Bar positions as text, `BAR.BEAT.TICK`.
-ghost use Rattle.std.specs.Prelude.{◌≡◌, ℕ, ◌≤◌, List, ◌∷◌, length, Some, None, IfSome};
+ghost use Rattle.std.specs.Prelude.{◌≡◌, ℕ, ◌≤◌, List, length, Some, None, IfSome};
 ghost use Rattle.std.specs.Str.{bytes_eq};
 ghost use Rattle.meter.specs.declared.row.MeterRow.{MeterRow};
 ghost use Rattle.forms.specs.Texts.{OneWord};
-ghost use Rattle.text.specs.Decimal.{digits};
 ghost use Rattle.text.specs.Writer.{Appends, has_room};
 ghost use Rattle.bar_positions.specs.BarPositions.{no_position, position_number};
 ghost use Rattle.bar_positions.specs.Spellings.{Held, position_text, position_spelt};
@@ -14,17 +13,6 @@ use refusal::Refusal;
 use std::str;
 use text::decimal::width;
 use text::writer::TextWriter;
-
-// A full stop and a number, of which nothing is written where they do not fit whole.
-fn write_next(w: &mut TextWriter, n: u64) -> Result<(), Refusal>
-    ensures { Appends (46 ∷ digits n) w.old w.new result }
-{
-    if !w.has_room(1 + width(n)) {
-        return Err(Refusal::ShortBuffer);
-    }
-    w.byte(b'.')?;
-    w.number(n)
-}
 
 impl BarPosition {
     // A position that no table has, to stand for a text that writes none: a deck asks of a cue's number before it asks of
@@ -76,9 +64,9 @@ impl BarPosition {
         if !self.fits(w) {
             return Err(Refusal::ShortBuffer);
         }
-        w.number(u64::from(self.bar))?;
-        write_next(w, u64::from(self.beat))?;
-        write_next(w, u64::from(self.tick))
+        w.number_then(u64::from(self.bar), b'.')?;
+        w.number_then(u64::from(self.beat), b'.')?;
+        w.number(u64::from(self.tick))
     }
 
     // Whether a text is the position's own; 20 bytes are enough for any.

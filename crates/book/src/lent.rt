@@ -1,6 +1,6 @@
 // Memory that the host lends: the first places are in use, at most MOST of them. The count stands beside the memory,
-// since lent memory cannot grow as a Vec does. A struct that holds a `&mut` keeps no invariant here, so each method
-// caps the count at the memory's own length.
+// since lent memory cannot grow as a Vec does. A struct that holds a `&mut` keeps no invariant here, so `held` caps the
+// count at the memory's own length, and each other method goes through `held`.
 ghost use Rattle.std.specs.Prelude.{◌≡◌, ◌-◌, ◌<◌, ◌≤◌, min, [], ◌∷◌, ◌++◌, length};
 ghost use Rattle.std.specs.List.{insert, remove};
 ghost use Rattle.book.specs.Held.{in_use, places};

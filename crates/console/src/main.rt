@@ -2,6 +2,8 @@
 #![tactic(auto)]
 
 use book::cue::{Cue, Line};
+use book::edits::MOST_CUES;
+use book::record::MOST_LINES;
 use deck::state::Deck;
 use forms::format::Format;
 use forms::label::{Label, Labels};
@@ -19,11 +21,6 @@ use written::base::Written;
 const SAMPLE_RATE: u64 = 48_000;
 
 const FRAMES: u64 = 2_589_409;
-
-// How many cues and lines the host lends memory for.
-const PLACES: usize = 4096;
-
-const LINES: usize = 65_535;
 
 // The labels that cues and log lines are written in.
 const LABELS: Labels = Labels {
@@ -84,8 +81,9 @@ fn main(rt: HostRuntime) -> io::Result<()> {
         sample: 0,
         label: None,
     };
-    let mut places = vec![in rt.alloc(); cue; PLACES]?;
-    let mut lines = vec![in rt.alloc(); line; LINES]?;
+    // The host lends memory for as many cues and lines as there may be.
+    let mut places = vec![in rt.alloc(); cue; MOST_CUES]?;
+    let mut lines = vec![in rt.alloc(); line; MOST_LINES]?;
     let log = Written::new(frames, LABELS);
     let mut deck = Deck::new(frames, LABELS, log, &mut places, &mut lines);
     serve(&rt, &mut deck)

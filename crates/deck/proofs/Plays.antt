@@ -70,9 +70,6 @@ module _ {C F L V W : Type 0} (w : World V W) (sound : Sound w.cues) (d : Deck C
   pub row_good : (k : ℕ) (x : Cue V) → f ≤ k → k < u → (get_or (cues d.book) k x).position < w.cues.len
   row_good k x l m = let i = (to rises).inside in (All-get_or (Good V W w) (cues d.book) k x (omega arith) good).inside
 
-  pub refuses_past : end < d.head + n → refusal w past (Play n) ≡ Some HeadPastEnd
-  refuses_past h = play_past w past n (subst (λ x. end < x + n) had.head_is h)
-
   pub refuses_full : d.head + n ≤ end → w.lines - length (lines d.log) < u - f → refusal w past (Play n) ≡ Some NoFreeLines
   refuses_full h l =
       play_full w past n (subst (λ x. x + n ≤ end) had.head_is h)

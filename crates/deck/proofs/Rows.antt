@@ -2,7 +2,7 @@
 use Rattle.std.proofs.Common.{◌≡◌, ℕ, zero, suc, ◌+◌, ◌-◌, ◌<◌, ◌≤◌, Bool, true, false, cond, ltb, leb, List, [], ◌∷◌, ◌++◌, map, length, get_or, is_ok, Some, None, Ok, Err, Result, if◌then◌else◌, sym, refl, ap, ◌∙◌, subst, append_assoc, arith, lt-ltb}
 use Rattle.std.proofs.Math.Seq.{get_or-append_seam}
 use Rattle.std.proofs.lemmas.Bool.{ltb-false, leb-true, leb-false}
-use Rattle.std.proofs.lemmas.List.{append-nil, map-append, length-append, length-map, get_or_append_left}
+use Rattle.std.proofs.lemmas.List.{map-append, length-append, length-map, get_or_append_left}
 use Rattle.std.proofs.lemmas.List.Edits.{get_or-between, length-between}
 use Rattle.std.specs.List.{All, between}
 use Rattle.refusal.specs.declared.Refusal.{Refusal}
@@ -50,9 +50,6 @@ all_one P x h (suc k) d within = absurd (omega arith)
 module _ {V W : Type 0} (w : World V W) where
   abbrev Inside : Cue V → Type 0
   Inside x = x.position < w.cues.len
-
-  pub appends_none : (l : Log W) → Appends w [] l l
-  appends_none l = λ all fits. sym (append-nil (lines l))
 
   -- one cue more
   pub appends_more : (xs : List (Cue V)) (x : Cue V) (a b e : Log W) → log_room b ≡ log_room a → Appends w xs a b → Appends w (x ∷ []) b e → Appends w (xs ++ (x ∷ [])) a e

@@ -6,15 +6,14 @@ ghost use Rattle.deck.specs.Blocks.{block_end, Row};
 use crate::state::Deck;
 use forms::form::WrittenForm;
 use std::ops::Range;
-use timebase::base::{LAST_SAMPLE, Timebase};
+use timebase::base::{END, Timebase};
 use written::base::WrittenTimebase;
 
 // Where a block of `count` samples from the head ends, if that is not past the sample after the last.
 pub(crate) fn block_end(head: u64, count: u64) -> Option<u64>
     ensures { result ≡ block_end head count }
 {
-    head.checked_add(count)
-        .filter(|until| *until <= LAST_SAMPLE + 1)
+    head.checked_add(count).filter(|until| *until <= END)
 }
 
 impl<'m, C: Timebase, F: WrittenForm, L: WrittenTimebase> Deck<'m, C, F, L> {

@@ -10,7 +10,7 @@ use crate::world::HasWorld;
 use book::cue::Cue;
 use forms::form::WrittenForm;
 use refusal::Refusal;
-use timebase::base::{LAST_SAMPLE, Timebase};
+use timebase::base::{END, Timebase};
 use written::base::WrittenTimebase;
 
 // Cue numbers run from 1 to 999,999.
@@ -26,12 +26,9 @@ impl<'m, C: Timebase, F: WrittenForm, L: WrittenTimebase> Deck<'m, C, F, L> {
         ensures { result ≡ position_of (F.number self.now.form at) (C.meaning self.now.pile).len }
     {
         let position = self.form.read(at)?;
-        // A plain `if`: `filter` would take an Option made of the position, and `ok_or` after it.
-        if position < self.pile.len() {
-            Ok(position)
-        } else {
-            Err(Refusal::NoPosition)
-        }
+        (position < self.pile.len())
+            .then_some(position)
+            .ok_or(Refusal::NoPosition)
     }
 
     // A cue put into the book.
@@ -66,7 +63,7 @@ impl<'m, C: Timebase, F: WrittenForm, L: WrittenTimebase> Deck<'m, C, F, L> {
     pub fn seek(&mut self, head: u64) -> Result<(), Refusal>
         ensures { Taken (Unit {0}) (⟦<Self as HasWorld>⟧.world self.old) self.old self.new (Seek head) done result }
     {
-        if head > LAST_SAMPLE + 1 {
+        if head > END {
             return Err(Refusal::HeadPastEnd);
         }
         self.head = head;

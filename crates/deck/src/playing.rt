@@ -19,7 +19,8 @@ use std::ops::Range;
 use timebase::base::Timebase;
 use written::base::WrittenTimebase;
 
-// The line of a cue: its sample and the label current there. A cue past the pile's end has none.
+// The line of a cue: its sample and the label current there. A cue past the pile's end has none. Over the
+// deck's fields, since `log_all` asks for it while the log is written.
 fn line_for<C: Timebase, V: Copy, L: WrittenTimebase>(
     pile: &C,
     frames: &L,
@@ -35,7 +36,8 @@ fn line_for<C: Timebase, V: Copy, L: WrittenTimebase>(
     })
 }
 
-// The lines of some cues put to the log; `play` has seen that the log has room for them.
+// The lines of some cues put to the log; `play` has seen that the log has room for them. Over the deck's fields, since
+// the log is written while the piles and the book are read.
 fn log_all<C: Timebase, V: Copy, L: WrittenTimebase>(
     pile: &C,
     frames: &L,

@@ -7,6 +7,7 @@ use forms::form::WrittenForm;
 use timebase::base::Timebase;
 use written::base::WrittenTimebase;
 
+// The world is a trait's ghost member: a struct that holds a `&mut` can have neither a ghost field nor a Model.
 pub trait HasWorld {
     type Written;
 

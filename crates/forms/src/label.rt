@@ -18,7 +18,8 @@ pub struct Label {
 }
 
 impl Label {
-    // A label that no format has, to stand for a text that writes none.
+    // A label that no format has, to stand for a text that writes none: a deck asks of a cue's number before it asks of its
+    // position, so the label must come as one that is refused later.
     pub fn invalid() -> Label
         ensures value { result ≡ no_label }
         ensures refused { (f : Format) → label_number f result ≡ None }

@@ -21,7 +21,7 @@ fn part(tens: u8, ones: u8) -> Option<u8>
 }
 
 impl Labels {
-    // The byte between seconds and frames.
+    // The byte between seconds and frames: one of the two that formats have.
     fn last_separator(&self) -> u8
         ensures { result ≡ (values self.now.format).separator }
     {
@@ -35,12 +35,7 @@ impl Labels {
     fn separates(&self, a: u8, b: u8, c: u8) -> bool
         ensures { result ≡ separators self.now.format a b c }
     {
-        let last = match char::from(c) {
-            ':' => !self.format.drops(),
-            ';' => self.format.drops(),
-            _ => false,
-        };
-        a == b':' && b == b':' && last
+        a == b':' && b == b':' && c == self.last_separator()
     }
 
     // The label's text, also where the format has not the label.

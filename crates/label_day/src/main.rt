@@ -5,11 +5,13 @@
 use forms::form::{TextForm, WrittenForm};
 use forms::format::Format;
 use forms::label::Labels;
+use forms::text::LABEL_TEXT;
 use refusal::Refusal;
 use std::hash::Hasher;
 use std::io;
 use std::ops::Range;
 use std::str::from_utf8;
+use trials::answered::Answered;
 use trials::tally::Tally;
 
 // The formats, as the outside library's program names them: the names are for this output alone, so no Display of Format.
@@ -28,7 +30,7 @@ const SOUGHT: [&str; 4] = ["00:01:00;01", "00:01:00;02", "00:10:00;00", "00:10:0
 
 // Number `n` written, printed, parsed and read again.
 fn there_and_back(labels: &Labels, n: u64, mut tally: Tally) -> Result<Tally, Refusal> {
-    let mut text = [0; 11];
+    let mut text = [0; LABEL_TEXT];
     labels.print(labels.write(n)?, &mut text)?;
     tally.hash.write(&text);
     tally.add(labels.read(labels.parse(&text)?)?);
@@ -47,10 +49,8 @@ fn day(rt: &HostRuntime, name: &str, format: Format) -> io::Result<()> {
     // An hour of the day, which is printed too, and no index.
     for hour in 0..24u64 {
         let from = long.wrapping_mul(hour);
-        match run(&labels, from..from.wrapping_add(long)) {
-            Ok(tally) => println!(rt; "{name} {hour:02} {tally}")?,
-            Err(why) => println!(rt; "{name} {hour:02} {why}")?,
-        }
+        let ran = run(&labels, from..from.wrapping_add(long));
+        println!(rt; "{name} {hour:02} {}", Answered(ran))?;
     }
     Ok(())
 }
@@ -60,21 +60,14 @@ fn written(labels: &Labels, n: u64, text: &mut [u8]) -> Result<usize, Refusal> {
 }
 
 fn worked(rt: &HostRuntime, labels: &Labels, n: u64) -> io::Result<()> {
-    let mut text = [0; 11];
-    match written(labels, n, &mut text) {
-        Ok(_) => {
-            let text = from_utf8(&text).unwrap_or("no text");
-            println!(rt; "{n} {text}")
-        }
-        Err(why) => println!(rt; "{n} {why}"),
-    }
+    let mut text = [0; LABEL_TEXT];
+    let answer = written(labels, n, &mut text).map(|_| from_utf8(&text).unwrap_or("no text"));
+    println!(rt; "{n} {}", Answered(answer))
 }
 
 fn sought(rt: &HostRuntime, labels: &Labels, text: &str) -> io::Result<()> {
-    match labels.read(labels.value_of(text.as_bytes())) {
-        Ok(n) => println!(rt; "{text} {n}"),
-        Err(why) => println!(rt; "{text} {why}"),
-    }
+    let answer = labels.read(labels.value_of(text.as_bytes()));
+    println!(rt; "{text} {}", Answered(answer))
 }
 
 fn main(rt: HostRuntime) -> io::Result<()> {

@@ -3,7 +3,8 @@
 --   samples_sound   the layer keeps the law of a timebase
 --   samples_least   asking the lower timebase for back s locates s
 --   samples_agree   so place and locate agree
---   samples_length  the length is what is located for the sample after the last
+--   samples_end     the length is what is located for the sample after the last
+--   samples_length  so it is what the lower timebase locates for back of that sample
 --   samples_placed  placing below, then changing and checking the sample, places
 -- Assumes nothing.
 use Rattle.std.specs.Prelude.{◌≡◌, ℕ, ◌^◌, min, Result, nat_le}
@@ -47,9 +48,13 @@ pub samples_agree : {g back : ℕ → ℕ} → Pair g back → {m : Meaning} →
     Least m (back (min s (2 ^ 36))) r → Agree (on_samples g m) s r
 samples_agree pair sound least = least_agrees _ (samples_sound pair sound) _ _ (samples_least pair sound least)
 
-pub samples_length : {g back : ℕ → ℕ} → Pair g back → {m : Meaning} → Sound m → {r : ℕ} →
+pub samples_end : {g back : ℕ → ℕ} → Pair g back → {m : Meaning} → Sound m → {r : ℕ} →
     Least (on_samples g m) (2 ^ 36) r → r ≡ (on_samples g m).len
-samples_length pair sound {r} least = grind (arith, least.inside, least.reaches, (samples_sound pair sound).within r)
+samples_end pair sound {r} least = grind (arith, least.inside, least.reaches, (samples_sound pair sound).within r)
+
+pub samples_length : {g back : ℕ → ℕ} → Pair g back → {m : Meaning} → Sound m → {r : ℕ} →
+    Least m (back (2 ^ 36)) r → r ≡ (on_samples g m).len
+samples_length pair sound least = samples_end pair sound (samples_least pair sound least)
 
 pub samples_placed : {g back : ℕ → ℕ} → Pair g back → {m : Meaning} → Sound m → (p : ℕ) {r : Result ℕ Refusal} →
     r ≡ placed m p → checked g r ≡ placed (on_samples g m) p

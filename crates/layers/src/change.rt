@@ -2,10 +2,8 @@
 ghost use Rattle.std.specs.Prelude.{◌≡◌, ℕ, ◌^◌, min};
 ghost use Rattle.layers.specs.Layers.{Pair, Ahead};
 
-use timebase::base::LAST_SAMPLE;
-
-// 2^36: the sample after the last, and the longest length. A change takes a larger number for this one.
-pub const END: u64 = LAST_SAMPLE + 1;
+// A change takes a number past 2^36 for this one.
+pub use timebase::base::END;
 
 pub trait Change {
     ghost up: { Self → ℕ → ℕ };

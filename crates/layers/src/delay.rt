@@ -1,5 +1,6 @@
 // The delay: every position falls k samples later.
-ghost use Rattle.std.specs.Prelude.{◌≡◌, IfOk, Some, None, MatchResult};
+ghost use Rattle.std.specs.Prelude.{◌≡◌, IfOk};
+ghost use Rattle.std.specs.Result.{result_err};
 ghost use Rattle.layers.specs.Layers.{delay_refusal};
 
 use crate::on_samples::OnSamples;
@@ -12,7 +13,7 @@ pub type Delay<T> = OnSamples<T, Shift>;
 impl<T: Drop> Delay<T> {
     // Refused where k is past the last sample.
     pub fn new(lower: T, k: u64) -> Result<Self, Refusal>
-        ensures cases { MatchResult result (λ _. delay_refusal k ≡ None) (λ e. delay_refusal k ≡ Some e) }
+        ensures cases { result_err result ≡ delay_refusal k }
         ensures made { IfOk result (λ d. (d.lower ≡ lower) × (d.change.n ≡ k)) }
     {
         let change = Shift::new(k, LAST_SAMPLE)?;

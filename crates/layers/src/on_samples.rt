@@ -8,8 +8,8 @@ use timebase::base::{LAST_SAMPLE, Timebase};
 
 #[derive(Clone, Copy, Drop)]
 pub struct OnSamples<T, G> {
-    pub lower: T,
-    pub change: G,
+    pub(crate) lower: T,
+    pub(crate) change: G,
 }
 
 impl<T: Timebase, G: Change> Timebase for OnSamples<T, G> {

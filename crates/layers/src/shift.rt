@@ -1,5 +1,6 @@
 // A shift: every number falls n later.
-ghost use Rattle.std.specs.Prelude.{◌≡◌, ◌^◌, ◌≤◌, IfOk, Some, None, MatchResult, nat_le};
+ghost use Rattle.std.specs.Prelude.{◌≡◌, ◌^◌, ◌≤◌, IfOk, nat_le};
+ghost use Rattle.std.specs.Result.{result_err};
 ghost use Rattle.layers.specs.Layers.{made_if, shifted, shifted_back};
 ghost use Rattle.layers.specs.Pairs.{shift_pair, shift_ahead};
 
@@ -16,7 +17,7 @@ impl Shift {
     // Refused where n is over `most`.
     pub(crate) fn new(n: u64, most: u64) -> Result<Self, Refusal>
         requires { most ≤ 2 ^ 36 }
-        ensures cases { MatchResult result (λ _. made_if (nat_le n most) ≡ None) (λ e. made_if (nat_le n most) ≡ Some e) }
+        ensures cases { result_err result ≡ made_if (nat_le n most) }
         ensures made { IfOk result (λ g. g.n ≡ n) }
     {
         if n > most {

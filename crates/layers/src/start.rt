@@ -1,5 +1,6 @@
 // The start: position 0 is the lower timebase's position m.
-ghost use Rattle.std.specs.Prelude.{◌≡◌, IfOk, Some, None, MatchResult};
+ghost use Rattle.std.specs.Prelude.{◌≡◌, IfOk};
+ghost use Rattle.std.specs.Result.{result_err};
 ghost use Rattle.layers.specs.Layers.{start_refusal};
 
 use crate::change::END;
@@ -12,7 +13,7 @@ pub type Start<T> = OnPositions<T, Shift>;
 impl<T: Drop> Start<T> {
     // Refused where m is over 2^36, the longest that a timebase can be.
     pub fn new(lower: T, m: u64) -> Result<Self, Refusal>
-        ensures cases { MatchResult result (λ _. start_refusal m ≡ None) (λ e. start_refusal m ≡ Some e) }
+        ensures cases { result_err result ≡ start_refusal m }
         ensures made { IfOk result (λ t. (t.lower ≡ lower) × (t.change.n ≡ m)) }
     {
         let change = Shift::new(m, END)?;

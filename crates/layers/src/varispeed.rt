@@ -1,5 +1,6 @@
 // The varispeed: every sample is multiplied by a ÷ b and rounded up, once.
-ghost use Rattle.std.specs.Prelude.{◌≡◌, IfOk, Some, None, MatchResult};
+ghost use Rattle.std.specs.Prelude.{◌≡◌, IfOk};
+ghost use Rattle.std.specs.Result.{result_err};
 ghost use Rattle.timebase.specs.Scale.{scaled, reached};
 ghost use Rattle.layers.specs.Layers.{varispeed_refusal};
 ghost use Rattle.layers.specs.Pairs.{varispeed_pair};
@@ -17,7 +18,7 @@ pub type Varispeed<T> = OnSamples<T, Fraction>;
 impl<T: Drop> Varispeed<T> {
     // Refused where a or b is 0 or over 2^20.
     pub fn new(lower: T, a: u64, b: u64) -> Result<Self, Refusal>
-        ensures cases { MatchResult result (λ _. varispeed_refusal a b ≡ None) (λ e. varispeed_refusal a b ≡ Some e) }
+        ensures cases { result_err result ≡ varispeed_refusal a b }
         ensures made { IfOk result (λ v. (v.lower ≡ lower) × (v.change.n ≡ a) × (v.change.d ≡ b)) }
     {
         let change = Fraction::new(a, b, MOST).ok_or(Refusal::BadMaking)?;

@@ -1,52 +1,45 @@
--- The rules of a table tried all at once: each row on its own, and each with the next.
---   tried       what the two tests answer
---   whole_kept  they decide, once the table is short enough and begins at tick 0
+-- The rules of a table tried all at once: each row with the next, and the last by itself.
+--   kept_tested  the rows keep the rules exactly if each passes with the next and the last passes by itself
+--   whole_kept   they decide, once the table is short enough and begins at tick 0
 -- Assumes nothing.
-use Rattle.std.proofs.Common.{◌≡◌, ℕ, ◌≤◌, Bool, true, false, ◌&&◌, eqb, leb, List, [], ◌∷◌, length, get_or, drop, sym, refl, ap, ◌∙◌, arith}
-use Rattle.std.specs.List.{list_all, zip}
-use Rattle.std.proofs.lemmas.Bool.{and_left, false≢true, le-leb}
-use Rattle.meter.specs.Rules.{row_kept, meter_kept, next_kept, all_kept, kept}
+use Rattle.std.proofs.Common.{◌≡◌, ℕ, ◌-◌, ◌≤◌, Bool, true, false, ◌&&◌, eqb, leb, List, [], ◌∷◌, length, get_or, sym, refl, ap, ◌∙◌, arith}
+use Rattle.std.specs.List.{IsAllAdjacentAnswer, slice_get}
+use Rattle.std.proofs.lemmas.Bool.{le-leb}
+use Rattle.std.proofs.lemmas.Option.{slice_get-get_or}
+use Rattle.rows.specs.Chains.{chained}
+use Rattle.rows.proofs.Linking.{chain_tested}
+use Rattle.meter.specs.Rules.{row_kept, meter_kept, next_kept, all_kept, ends_kept, rows_kept, kept}
 use Rattle.meter.specs.BarLines.{no_row}
 use Rattle.meter.specs.declared.row.MeterRow.{MeterRow}
 
-abbrev pub tried : ℕ → List MeterRow → List MeterRow → Bool
-tried d rows rest =
-    list_all (λ row. meter_kept d row) rows
-    && list_all (λ (p : MeterRow × MeterRow). meter_kept d p.0 && next_kept d p.0 p.1) (zip rows rest)
+-- with b for the division's own test
+divided : (b : Bool) (row : MeterRow → Bool) (next : MeterRow → MeterRow → Bool) (r : MeterRow) (rest : List MeterRow) →
+    chained (λ x y. b && row x && next x y) (λ x. b && row x) r rest ≡ (b && chained (λ x y. row x && next x y) row r rest)
+divided true row next r [] = refl
+divided true row next r (s ∷ rest) = ap (λ x. row r && next r s && x) (divided true row next s rest)
+divided false row next r [] = refl
+divided false row next r (s ∷ rest) = refl
 
-regrouped : (a n x y : Bool) → (a && n && (x && y)) ≡ (a && x && (a && n && y))
-regrouped false n x y = refl
-regrouped true true x y = refl
-regrouped true false true y = refl
-regrouped true false false y = refl
+pub kept_tested : (d : ℕ) (rows : List MeterRow) (a : Bool) →
+    IsAllAdjacentAnswer (λ x y t. t ≡ (meter_kept d x && next_kept d x y)) rows a →
+    (a && ends_kept d (slice_get rows (length rows - 1))) ≡ rows_kept d rows
+kept_tested d [] true h = refl
+kept_tested d [] false h = refl
+kept_tested d (r ∷ rest) a h =
+    let same : length (r ∷ rest) - 1 ≡ length rest = omega arith in
+    ap (λ n. a && ends_kept d (slice_get (r ∷ rest) n)) same
+    ∙ ap (λ x. a && ends_kept d x) (slice_get-get_or (r ∷ rest) (length rest) r (omega arith))
+    ∙ sym (chain_tested (λ x y. meter_kept d x && next_kept d x y) (meter_kept d) r rest a h)
+    ∙ divided (leb 1 d && leb d 32767) (row_kept d) (next_kept d) r rest
 
--- with b for the division's own test: the last row, a row and those after it, and the whole table
-last_tried : (b k : Bool) → b ≡ true → k ≡ (b && k && true && true)
-last_tried false k p = absurd (false≢true p)
-last_tried true false p = refl
-last_tried true true p = refl
-
--- the second of two tests decides where the first passes
-pub second_decides : (a b : Bool) → a ≡ true → b ≡ (a && b)
-second_decides a b p = sym (ap (λ x. x && b) p)
-
-one_tried : (b k n v x y : Bool) → b ≡ true → v ≡ (x && y) → (k && n && v) ≡ (b && k && x && (b && k && n && y))
-one_tried false k n v x y p q = absurd (false≢true p)
-one_tried true k n v x y p q = ap (λ w. k && n && w) q ∙ regrouped k n x y
-
-all_tried : (b s z v w : Bool) → s ≡ true → z ≡ true → (b ≡ true → v ≡ w) → (b ≡ false → w ≡ false) →
-    (b && s && z && v) ≡ w
-all_tried false s z v w p q on off = sym (off refl)
-all_tried true s z v w p q on off = ap (λ a. a && z && v) p ∙ (ap (λ a. a && v) q ∙ on refl)
-
-rows_tried : (d : ℕ) (r : MeterRow) (rest : List MeterRow) → (leb 1 d && leb d 32767) ≡ true →
-    all_kept d r rest ≡ tried d (r ∷ rest) rest
-rows_tried d r [] h = last_tried _ (row_kept d r) h
-rows_tried d r (s ∷ rest) h = one_tried _ (row_kept d r) (next_kept d r s) _ _ _ h (rows_tried d s rest h)
+passed : (b v : Bool) → (b && true && true && v) ≡ (b && v)
+passed true v = refl
+passed false v = refl
 
 pub whole_kept : (d : ℕ) (rows : List MeterRow) → 1 ≤ length rows → length rows ≤ 64 → (get_or rows 0 no_row).tick ≡ 0 →
-    kept d rows ≡ tried d rows (drop 1 rows)
+    rows_kept d rows ≡ kept d rows
 whole_kept d [] n e z = absurd (omega arith)
 whole_kept d (r ∷ rest) n e z =
-    all_tried (leb 1 d && leb d 32767) _ _ _ _ (le-leb _ _ e) (ap (λ t. eqb t 0) z) (rows_tried d r rest)
-    (λ off. and_left _ _ (and_left _ _ (and_left _ _ off)))
+    let b = leb 1 d && leb d 32767 in
+    let v = all_kept d r rest in
+    sym (ap (λ x. b && x && eqb r.tick 0 && v) (le-leb _ _ e) ∙ ap (λ t. b && true && eqb t 0 && v) z ∙ passed b v)

@@ -1,19 +1,28 @@
--- Each bar is as long as the meter current at its line says.
+-- The meter that is current at a tick, and that each bar is as long as the meter current at its line says.
 -- Assumes nothing.
-use Rattle.std.specs.Prelude.{◌≡◌, ℕ, ◌+◌, ◌-◌, ◌*◌, ◌<◌, ◌≤◌, true, List, [], ◌∷◌}
-use Rattle.std.proofs.Common.{sym, ◌∙◌, ap, inl, inr, arith, add-mul, mul-le-mul_right}
+use Rattle.std.specs.Prelude.{◌≡◌, ℕ, suc, ◌+◌, ◌-◌, ◌*◌, ◌<◌, ◌≤◌, true, List, [], ◌∷◌, length, slice_index_or}
+use Rattle.std.proofs.Common.{sym, ◌∙◌, ap, inl, inr, arith, add-one, add-mul, mul-le-mul_right}
 use Rattle.std.proofs.lemmas.Bool.{cases_lt}
 use Rattle.rows.specs.Current.{current_from}
-use Rattle.rows.proofs.Currents.{before_next, from_next}
+use Rattle.rows.proofs.Currents as currents
+use Rattle.rows.proofs.Currents.{before_next, from_next, rises_by}
 use Rattle.rows.proofs.Strict.{never_falls}
 use Rattle.meter.specs.Rules.{bar_of, all_kept}
-use Rattle.meter.specs.BarLines.{gap_of, bar_from, tick_of}
+use Rattle.meter.specs.BarLines.{no_row, gap_of, bar_from, tick_of}
 use Rattle.meter.specs.declared.row.MeterRow.{MeterRow}
 use Rattle.meter.specs.Stretch.{Link, Parts, parts, inside, past}
 use Rattle.meter.specs.Rising.{starts, rises}
+use Rattle.meter.specs.Places.{link_at}
 
 abbrev row_from : MeterRow → List MeterRow → ℕ → MeterRow
 row_from r rest t = current_from tick_of r rest t
+
+pub current_at : (d : ℕ) (r : MeterRow) (rest : List MeterRow) (i t : ℕ) → 1 ≤ d → all_kept d r rest ≡ true →
+    i < length (r ∷ rest) → (slice_index_or (r ∷ rest) i no_row).tick ≤ t → (suc i < length (r ∷ rest) →
+    t < (slice_index_or (r ∷ rest) (suc i) no_row).tick) → row_from r rest t ≡ slice_index_or (r ∷ rest) i no_row
+current_at d r rest i t h k l a b =
+    let up = rises_by tick_of (r ∷ rest) no_row (λ j g. rw add-one (link_at d r rest j h k (omega arith)).later) in
+    currents.current_at tick_of no_row (r ∷ rest) i t no_row up l a (λ g. rw add-one (b (omega arith)))
 
 -- no bar from a row on begins before the row
 not_before : (d : ℕ) (r : MeterRow) (rest : List MeterRow) (p : ℕ) → 1 ≤ d → all_kept d r rest ≡ true →

@@ -6,9 +6,11 @@
 --   next_kept   a row lies after the one before it, on a bar line of that one
 --   both_kept   a row is in range, and the next lies on a bar line of it
 --   all_kept    a row and those after it keep the rules
+--   ends_kept   there is a last row, in range, at a division that is
+--   rows_kept   there are rows, and they keep the rules, at a division that is in range
 --   kept        a whole table keeps the rules
 -- Assumes nothing.
-use Rattle.std.specs.Prelude.{ℕ, ◌-◌, ◌*◌, ◌/◌, ◌%◌, ◌^◌, Bool, false, ◌&&◌, List, [], ◌∷◌, length, ◌==◌, nat_le, nat_lt}
+use Rattle.std.specs.Prelude.{ℕ, ◌-◌, ◌*◌, ◌/◌, ◌%◌, ◌^◌, Bool, false, ◌&&◌, Option, Some, None, List, [], ◌∷◌, length, ◌==◌, nat_le, nat_lt}
 use Rattle.rows.specs.Chains.{chained}
 use Rattle.meter.specs.declared.row.MeterRow.{MeterRow}
 
@@ -35,6 +37,14 @@ both_kept division r s = row_kept division r && next_kept division r s
 
 abbrev pub all_kept : ℕ → MeterRow → List MeterRow → Bool
 all_kept division r rest = chained (both_kept division) (row_kept division) r rest
+
+abbrev pub ends_kept : ℕ → Option MeterRow → Bool
+ends_kept division None = false
+ends_kept division (Some r) = meter_kept division r
+
+abbrev pub rows_kept : ℕ → List MeterRow → Bool
+rows_kept division [] = false
+rows_kept division (r ∷ rest) = nat_le 1 division && nat_le division 32767 && all_kept division r rest
 
 abbrev pub kept : ℕ → List MeterRow → Bool
 kept division [] = false

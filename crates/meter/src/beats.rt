@@ -4,8 +4,7 @@ ghost use Rattle.meter.specs.Rules.{beat_of, bar_of, row_kept, next_kept, meter_
 ghost use Rattle.meter.specs.BarLines.{gap_of};
 
 use crate::row::MeterRow;
-
-const LAST_TICK: u32 = 1_073_741_823;
+use rows::row::{LAST_TICK, MOST_DIVISION};
 
 fn denominator(dd: u8) -> u32
     requires { dd ≤ 6 }
@@ -31,7 +30,8 @@ impl Meter {
         ensures division { IfSome result (λ m. m.division ≡ division) }
         ensures row { IfSome result (λ m. m.row ≡ row) }
     {
-        if (1..=32_767).contains(&division)
+        // No `then_some`, which takes a Meter made before the test: its ghost fields hold only behind it.
+        if (1..=MOST_DIVISION).contains(&division)
             && (1..=64).contains(&row.nn)
             && row.dd <= 6
             && 4 * division % denominator(row.dd) == 0

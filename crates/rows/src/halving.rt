@@ -11,7 +11,7 @@ fn has_begun<R: Row>(row: R, x: u64) -> bool
 }
 
 // How many of the rows, if none begins before the one before it, have begun at `x`: each turn halves what is left. Not by
-// `partition_point`: what this promises of rows out of order would then take a second search behind it.
+// `partition_point`, which promises nothing of rows out of order, as `parted` does here.
 pub fn begun_by<R: Row>(rows: &[R], x: u64) -> usize
     ensures parted { Begun R.begins rows.now x result }
     ensures value { Climbs R.begins rows.now → result ≡ begun R.begins rows.now x }

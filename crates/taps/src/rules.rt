@@ -18,6 +18,8 @@ pub(crate) fn few(samples: &[u64]) -> bool
 fn never_back(samples: &[u64]) -> bool
     ensures { IsTrue result ↔ IsNonDecreasing samples.now }
 {
+    // By a test of its own, and not `is_sorted`, which proves: the edit that forbids two taps together turns this test, and is
+    // to be refused for its meaning.
     samples.is_sorted_by(|before, next| before <= next)
 }
 

@@ -23,7 +23,7 @@ impl Timebase for Taps {
     ghost sound = { λ t. taps_sound _ t.few t.climbs };
 
     fn len(&self) -> u64 {
-        // By `as`, since no From leads from a usize to a u64.
+        // By `as`, here and below, since no From leads from a usize to a u64 or back.
         self.samples.len() as u64
     }
 

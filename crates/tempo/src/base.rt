@@ -16,15 +16,13 @@ impl Timebase for TempoMap {
     }
 
     fn place(&self, p: u64) -> Result<u64, Refusal> {
-        // A plain `if`: `then` would take a closure, and `ok_or` after it.
-        if p < self.ticks() {
-            Ok(self.sample_at(p))
-        } else {
-            Err(Refusal::NoPosition)
+        if p >= self.ticks() {
+            return Err(Refusal::NoPosition);
         }
+        Ok(self.sample_at(p))
     }
 
     fn locate(&self, s: u64) -> u64 {
-        self.first_from(s)
+        self.tick_reaching(self.reach(s)).min(self.ticks())
     }
 }

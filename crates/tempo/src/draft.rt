@@ -5,8 +5,7 @@ ghost use Rattle.tempo.specs.Micros.{micros, whole_stretch};
 ghost use Rattle.tempo.specs.Rules.{row_kept, next_kept, last_kept, ends_kept, chain_kept, rows_kept, kept};
 
 use crate::row::TempoRow;
-
-const LAST_TICK: u32 = 1_073_741_823;
+use rows::row::{LAST_TICK, MOST_DIVISION};
 
 // 24 hours in microseconds.
 const DAY: u64 = 86_400_000_000;
@@ -22,7 +21,7 @@ pub(crate) struct Draft<'a> {
 fn row_kept(row: TempoRow) -> bool
     ensures { result ≡ row_kept row }
 {
-    1 <= row.q && row.q <= 16_777_215
+    (1..=16_777_215).contains(&row.q)
 }
 
 fn next_kept(row: TempoRow, next: TempoRow) -> bool
@@ -52,11 +51,10 @@ impl<'a> Draft<'a> {
     fn ends_kept(&self) -> bool
         ensures { result ≡ ends_kept (slice_get self.now.rows.now (length self.now.rows.now - 1)) self.now.last }
     {
-        // A match: written with `is_some_and`, the clause stayed unproved.
-        match self.rows.last() {
-            Some(row) => last_kept(*row, self.last),
-            None => false,
-        }
+        let [.., end] = self.rows else {
+            return false;
+        };
+        last_kept(*end, self.last)
     }
 
     fn all_kept(&self) -> bool
@@ -89,8 +87,7 @@ impl<'a> Draft<'a> {
     pub(crate) fn keeps_rules(&self) -> bool
         ensures { result ≡ kept self.now.division self.now.rows.now self.now.last }
     {
-        1 <= self.division
-            && self.division <= 32_767
+        (1..=MOST_DIVISION).contains(&self.division)
             && self.rows_kept()
             && self.end_micros() <= u64::from(self.division) * DAY
     }

@@ -12,10 +12,9 @@ fn sum_after(summed: &[SummedRow], row: TempoRow) -> u64
     requires { sum_after (slice_get summed.now (length summed.now - 1)) row < 2 ^ 64 }
     ensures { result ≡ sum_after (slice_get summed.now (length summed.now - 1)) row }
 {
-    match summed.last() {
-        Some(before) => before.sum + before.row.up_to(row),
-        None => 0,
-    }
+    summed
+        .last()
+        .map_or(0, |before| before.sum + before.row.up_to(row))
 }
 
 // Copies of the rows, each with the sum at its tick: that of the row before it, and what lies between.

@@ -8,6 +8,7 @@ use timebase::base::{LAST_SAMPLE, Timebase};
 
 const Q: u32 = 500_000;
 
+// Said here again, so that a wrong limit of the engine shows.
 const LAST: u32 = 1_073_741_823;
 
 // 24 hours of ticks, each of a second.

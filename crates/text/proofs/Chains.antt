@@ -1,15 +1,13 @@
 -- Several texts appended one after another, where there is room for all of them.
---   fits_ok      a text that fits is appended
---   both         two texts that were appended one after the other are appended as one
---   not_refused  a call that must succeed does not refuse
---   fits_so      a text of at most k bytes is written where k bytes fit
+--   fits_ok  a text that fits is appended
+--   both     two texts that were appended one after the other are appended as one
 -- Assumes nothing.
-use Rattle.std.proofs.Common.{◌≡◌, ℕ, ◌+◌, ◌≤◌, true, List, ◌++◌, length, take, drop, Ok, Err, Result, sym, ap, ◌∙◌, subst, append_assoc, arith, length-append, length-drop}
+use Rattle.std.proofs.Common.{◌≡◌, ℕ, ◌+◌, ◌≤◌, true, List, ◌++◌, length, take, drop, Ok, Result, sym, ap, ◌∙◌, subst, append_assoc, arith, length-append, length-drop}
 use Rattle.std.proofs.lemmas.List.{drop-drop, drop_at, length-take-le}
-use Rattle.std.proofs.lemmas.Bool.{le-leb, leb-true, cond-true}
+use Rattle.std.proofs.lemmas.Bool.{le-leb, cond-true}
 use Rattle.refusal.specs.declared.Refusal.{Refusal}
 use Rattle.text.specs.declared.writer.TextWriter.{TextWriter}
-use Rattle.text.specs.Writer.{fits_after, has_room, Appends}
+use Rattle.text.specs.Writer.{fits_after, Appends}
 use Rattle.text.proofs.Loans.{grown_by, appends_ok}
 
 pub fits_ok : (text : List ℕ) (from to : TextWriter) (r : Result (Unit {0}) Refusal)
@@ -68,14 +66,3 @@ both t u a b c p q h k room =
     let end : c.len ≡ b.len + length u = k.filled ∙ cond-true _ _ _ back in
     subst (Appends (t ++ u) a c) (sym (k.said ∙ cond-true _ _ _ back))
     (appends_ok (t ++ u) a c (omega arith) whole (omega arith) (k.same ∙ h.same))
-
--- a call that must succeed does not refuse
-pub not_refused : {X : Type 0} (r : Result (Unit {0}) Refusal) (e : Refusal) → r ≡ Ok tt → r ≡ Err e → X
-not_refused r e is was = let z : ◌≡◌ {A = ℕ} 0 1 = cc in absurd (omega arith)
-
--- a text of at most k bytes is written where k bytes fit
-pub fits_so : (k : ℕ) (text : List ℕ) (from to : TextWriter) (r : Result (Unit {0}) Refusal) → length text ≤ k
-    → Appends text from to r → has_room k from ≡ true → r ≡ Ok tt
-fits_so k text from to r short h room =
-    let enough = leb-true _ _ room in
-    fits_ok text from to r (omega arith) h

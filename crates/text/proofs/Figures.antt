@@ -63,9 +63,6 @@ plain_digits n small =
     (record { some = decimal_nonempty n small; short = length-decimal-le 20 n (omega arith) (omega arith) small; figures = digits_decimal own n small; below = omega arith })
     ∙ ap Some v
 
-pub width_most : (n : ℕ) → n < 2 ^ 64 → length (digits n) ≤ 20
-width_most n small = length-decimal-le 20 n (omega arith) (omega arith) small
-
 -- a number from one power of ten to below the next
 width_between : (n k : ℕ) → n < 2 ^ 64 → 10 ^ k ≤ n → n < 10 * 10 ^ k → 1 + k ≡ length (digits n)
 width_between n k small low high =

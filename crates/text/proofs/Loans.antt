@@ -1,6 +1,5 @@
 -- What a text writer holds once it got back the part of its buffer that it lent.
 --   appends_ok, appends_no  a text was appended, or did not fit
---   filled_within           a step that puts a text fills no more than it was lent
 --   filled_ok               the part came back with the text at its start
 --   filled_no               the part came back as it was, too short for the text
 -- Assumes nothing.
@@ -76,12 +75,6 @@ back_in out part len inside =
 
 abbrev pub lent : List ℕ → ℕ → List ℕ
 lent out len = take (length out - len) (drop len out)
-
--- a step filled no more than it was lent
-pub filled_within : (text out after : List ℕ) (k : ℕ) → Puts text out after (Ok k) → k ≤ length out
-filled_within text out after k p =
-    let s = ok_fits (fits_in text out) (length text) k p.said in
-    omega (arith, leb-true (length text) (length out) s.0, s.1)
 
 pub filled_ok : (text part : List ℕ) (from to : TextWriter) (k : ℕ) → from.len ≤ length from.out.now
     → Puts text (lent from.out.now from.len) part (Ok k)

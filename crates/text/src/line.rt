@@ -11,6 +11,7 @@ use refusal::Refusal;
 
 const HYPHEN: u8 = b'-';
 
+// Form and label come as two parameters: over a struct of both, each clause would be longer and two callers would build it.
 // Whether the form has the label, if there is one.
 fn has_mark<F: WrittenForm>(form: &F, label: Option<F::Value>) -> bool
     ensures { result ≡ has_mark (F.number form.now) label }

@@ -9,7 +9,8 @@ use crate::decimal;
 use forms::form::{TextForm, WrittenForm};
 use refusal::Refusal;
 
-// The host lends the memory, so there is no String here.
+// The host lends the memory, so there is no String here. A struct that holds a `&mut` keeps no invariant, so `has_room`,
+// `fill` and `text` test `len` against the buffer.
 #[derive(Drop)]
 pub struct TextWriter<'b> {
     out: &'b mut [u8],

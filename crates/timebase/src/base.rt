@@ -7,6 +7,9 @@ use refusal::Refusal;
 // The last sample: samples run from 0 to here.
 pub const LAST_SAMPLE: u64 = (1 << 36) - 1;
 
+// The sample after the last, and the longest length.
+pub const END: u64 = LAST_SAMPLE + 1;
+
 pub trait Timebase {
     // The length and the rule that a value of the type stands for.
     ghost meaning: { Self → Meaning };

@@ -2,13 +2,10 @@
 ghost use Rattle.std.specs.Prelude.{◌≡◌, ◌^◌, ◌<◌, ◌≤◌, min, is_some, IfSome};
 ghost use Rattle.timebase.specs.Scale.{scaled, reached, in_range};
 
-use crate::base::LAST_SAMPLE;
+use crate::base::END;
 
 // The most that a fraction's two numbers can be: times a sample it still fits 64 bits.
 pub(crate) const MOST: u64 = 1 << 27;
-
-// The largest number that is multiplied, one past the last sample; a larger one counts as this.
-const TOP: u64 = LAST_SAMPLE + 1;
 
 #[derive(Clone, Copy)]
 pub struct Fraction {
@@ -38,7 +35,7 @@ impl Fraction {
     pub fn up(&self, x: u64) -> u64
         ensures { result ≡ scaled self.now.n self.now.d (min x (2 ^ 36)) }
     {
-        (x.min(TOP) * self.n).div_ceil(self.d)
+        (x.min(END) * self.n).div_ceil(self.d)
     }
 
     // The least x whose `up` is at least s; an s past 2^36 counts as 2^36.
@@ -49,6 +46,6 @@ impl Fraction {
         if s == 0 {
             return 0;
         }
-        (s.min(TOP) - 1) * self.d / self.n + 1
+        (s.min(END) - 1) * self.d / self.n + 1
     }
 }

@@ -62,12 +62,10 @@ impl Timebase for Ratio {
     }
 
     fn place(&self, p: u64) -> Result<u64, Refusal> {
-        // A plain `if`: `then` would take a closure, and `ok_or` after it.
-        if p < self.len {
-            Ok(self.step.up(p))
-        } else {
-            Err(Refusal::NoPosition)
+        if p >= self.len {
+            return Err(Refusal::NoPosition);
         }
+        Ok(self.step.up(p))
     }
 
     #[tactic(auto, using(crate::specs::Ratios::ratio_least, crate::specs::Ratios::ratio_agrees))]

@@ -1,4 +1,5 @@
 // A timebase's positions, and what is refused, as lines.
+use crate::answered::Answered;
 use refusal::Refusal;
 use std::io;
 use timebase::base::Timebase;
@@ -27,8 +28,5 @@ pub fn show<T: Timebase>(
 
 // Whether what was to be made is taken, or the refusal's number.
 pub fn tell<T: Drop>(rt: &impl Print, name: &str, made: Result<T, Refusal>) -> io::Result<()> {
-    match made {
-        Ok(_) => println!(rt; "{name} is taken"),
-        Err(why) => println!(rt; "{name} is {why}"),
-    }
+    println!(rt; "{name} is {}", Answered(made.map(|_| "taken")))
 }

@@ -16,6 +16,7 @@ use tempo::row::TempoRow;
 use timebase::base::Timebase;
 use timebase::rates::FrameRate;
 use timebase::ratio::Ratio;
+use trials::answered::Answered;
 use trials::failure::Failure;
 
 const LABELS: Labels = Labels {
@@ -48,10 +49,7 @@ const METERS: [MeterRow; 2] = [
 
 // What a question answers, as a line: the number, or the refusal's.
 fn say(rt: &HostRuntime, asked: &str, of: u64, answer: Result<u64, Refusal>) -> io::Result<()> {
-    match answer {
-        Ok(n) => println!(rt; "{asked} {of}: {n}"),
-        Err(why) => println!(rt; "{asked} {of}: {why}"),
-    }
+    println!(rt; "{asked} {of}: {}", Answered(answer))
 }
 
 fn labelled(rt: &HostRuntime, number: u64, label: Label) -> io::Result<()> {

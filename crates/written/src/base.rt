@@ -70,9 +70,8 @@ fn standing_at<T: Timebase>(pile: &T, s: u64) -> Option<u64>
         return None;
     }
     let next = pile.locate(s + 1);
-    // No chain: a filter over the position before `next` would not look at it.
-    if next == 0 || next == pile.len() {
+    if next == pile.len() {
         return None;
     }
-    Some(next - 1)
+    next.checked_sub(1)
 }

@@ -7,10 +7,7 @@ ghost use Rattle.meter.specs.Tables.{rows_of, bar_tick, bars_to, Lines};
 
 use crate::row::{CountedRow, MeterRow};
 use crate::table::MeterTable;
-use timebase::base::LAST_SAMPLE;
-
-// The longest that a timebase can be.
-const MOST_BARS: u64 = LAST_SAMPLE + 1;
+use timebase::base::END;
 
 impl MeterTable {
     // The tick at which bar `p` + 1 begins, from the row in which it lies.
@@ -40,7 +37,7 @@ impl MeterTable {
         ensures value { result ≡ bar_tick self.now (min p (2 ^ 36)) }
         ensures lines { Lines self.now }
     {
-        let p = p.min(MOST_BARS);
+        let p = p.min(END);
         self.tick_in_row(self.row_of_bar(p), p)
     }
 
@@ -60,7 +57,7 @@ impl MeterTable {
     }
 
     // The beats of a bar, and the ticks of a beat, of the meter that is current at tick `t`. A pair, and no struct, since
-    // each caller takes it apart where it gets it.
+    // its one caller takes it apart where it gets it.
     pub fn beats_at(&self, t: u64) -> (u8, u32)
         ensures beats { result.0 ≡ (row_at (rows_of self.now) t).nn }
         ensures value { result.1 ≡ beat_of self.now.division (row_at (rows_of self.now) t) }

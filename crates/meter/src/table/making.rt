@@ -7,7 +7,7 @@ ghost use Rattle.meter.specs.Tables.{Making};
 
 use crate::beats::Meter;
 use crate::row::{CountedRow, MeterRow};
-use crate::rules::keeps_rules;
+use crate::rules::Draft;
 use crate::table::MeterTable;
 use refusal::Refusal;
 
@@ -20,31 +20,34 @@ const NO_ROW: CountedRow = CountedRow {
     before: 0,
 };
 
-// The rows, and with each how many bars lie before it.
-fn counted(division: u32, rows: &[MeterRow]) -> [CountedRow; 64]
-    requires { kept division rows.now ≡ true }
-    ensures rows { rows_in (length rows.now) result ≡ rows.now }
-    ensures before { (k : ℕ) → k < length rows.now → (slice_index_or result k no_counted).before ≡ bars_before division rows.now k }
-{
-    let mut held = [NO_ROW; 64];
-    // The first row stands before itself, no bar away. The rows go in by place: after a `zip` with `iter_mut` no proof
-    // would know what `held` holds.
-    let mut last = CountedRow {
-        row: rows[0],
-        before: 0,
-    };
-    for (i, row) in rows.iter().enumerate() {
-        let meter = Meter {
-            division,
-            row: last.row,
+impl<'a> Draft<'a> {
+    // The rows, and with each how many bars lie before it.
+    fn counted(&self) -> [CountedRow; 64]
+        requires { kept self.now.division self.now.rows.now ≡ true }
+        ensures rows { rows_in (length self.now.rows.now) result ≡ self.now.rows.now }
+        ensures before { (k : ℕ) → k < length self.now.rows.now → (slice_index_or result k no_counted).before ≡ bars_before self.now.division self.now.rows.now k }
+    {
+        let Draft { division, rows } = *self;
+        let mut held = [NO_ROW; 64];
+        // The first row stands before itself, no bar away. The rows go in by place: after a `zip` with `iter_mut` no proof
+        // was found of what `held` holds.
+        let mut last = CountedRow {
+            row: rows[0],
+            before: 0,
         };
-        last = CountedRow {
-            row: *row,
-            before: last.before + meter.bars_to(*row),
-        };
-        held[i] = last;
+        for (i, row) in rows.iter().enumerate() {
+            let meter = Meter {
+                division,
+                row: last.row,
+            };
+            last = CountedRow {
+                row: *row,
+                before: last.before + meter.bars_to(*row),
+            };
+            held[i] = last;
+        }
+        held
     }
-    held
 }
 
 impl MeterTable {
@@ -52,12 +55,13 @@ impl MeterTable {
     pub fn new(division: u32, rows: &[MeterRow]) -> Result<MeterTable, Refusal>
         ensures { Making division rows.now result }
     {
-        if !keeps_rules(division, rows) {
+        let draft = Draft { division, rows };
+        if !draft.keeps_rules() {
             return Err(Refusal::BadMaking);
         }
         Ok(MeterTable {
             division,
-            rows: counted(division, rows),
+            rows: draft.counted(),
             len: rows.len(),
         })
     }

@@ -1,8 +1,7 @@
 // Ticks, samples and tempos looked up in a tempo map.
 ghost use Rattle.std.specs.Prelude.{◌≡◌, ◌+◌, ◌/◌, ◌%◌, ◌^◌, ◌≤◌, min};
-ghost use Rattle.timebase.specs.Meaning.{Least, Agree};
 ghost use Rattle.tempo.specs.Lies.{Parted};
-ghost use Rattle.tempo.specs.Maps.{rows_of, map_micros, samples_of, tempo_meaning, AddsUp};
+ghost use Rattle.tempo.specs.Maps.{rows_of, map_micros, samples_of, AddsUp};
 ghost use Rattle.tempo.specs.Micros.{row_at};
 
 use crate::map::TempoMap;
@@ -34,20 +33,12 @@ impl TempoMap {
     }
 
     // The first tick at or after the sum `x`.
-    fn tick_reaching(&self, x: u64) -> u64
+    pub(crate) fn tick_reaching(&self, x: u64) -> u64
         requires { x ≤ 2 ^ 62 }
         ensures { Parted (map_micros self.now) x result }
     {
         let held = self.row_of_sum(x);
         u64::from(held.row.tick) + ticks_for(x - held.sum, held.row.q)
-    }
-
-    // The least tick that falls on `s` or later, or the length.
-    pub(crate) fn first_from(&self, s: u64) -> u64
-        ensures least { Least (tempo_meaning self.now) s result }
-        ensures agrees { Agree (tempo_meaning self.now) s result }
-    {
-        self.tick_reaching(self.reach(s)).min(self.ticks())
     }
 
     // The row whose tempo is current at tick `t`.

@@ -15,14 +15,15 @@ impl TempoMap {
         u64::from(self.division) * self.rate.micros
     }
 
-    // The sample on which a sum falls.
+    // The sample on which a sum falls. Not a `Fraction`: a map's sums pass 2^36, and its division times the rate's
+    // microseconds 2^27.
+    #[tactic(auto, using(timebase::proofs::Ceiling::ceiling))]
     fn up(&self, x: u64) -> u64
         requires { x ≤ self.now.division * 86400000000 }
         ensures value { result ≡ samples_of self.now x }
         ensures bound { result ≤ 8294400000 }
     {
-        let span = self.span();
-        (x * self.rate.samples + (span - 1)) / span
+        (x * self.rate.samples).div_ceil(self.span())
     }
 
     // The sample of what lies `within` after a row's `sum`: they are added first, and rounded once.
@@ -34,7 +35,7 @@ impl TempoMap {
     }
 
     // The least sum that falls on `s` or later; an `s` past the latest sample counts as the one after it.
-    pub(super) fn reach(&self, s: u64) -> u64
+    pub(crate) fn reach(&self, s: u64) -> u64
         ensures { result ≡ sum_reaching self.now (min s 8294400001) }
     {
         if s == 0 {

@@ -4,7 +4,7 @@ use Rattle.timebase.specs.Locates.{least_agrees}
 use Rattle.tempo.specs.Maps.{map_micros, tempo_meaning}
 use Rattle.tempo.specs.Lies.{Parted}
 use Rattle.tempo.specs.Sounds.{tempo_sound, tempo_least}
-use Rattle.tempo.proofs.map.TempoMap.first_from.Goals as goal
+use Rattle.tempo.proofs.base.TempoMapTimebase.locate.Goals as goal
 
 pub returns : goal.returns
 returns c =
