@@ -1,3 +1,4 @@
 pub mod Answers
 pub mod Fnv
+pub mod Spots
 pub mod Tallies
