@@ -78,7 +78,8 @@ impl BarPositions {
         self.meter.bar_tick(p)
     }
 
-    // The bar of a number.
+    // The bar of a number. Inlined, since a struct comes back through memory.
+    #[inline(always)]
     fn bar(&self, number: u64) -> Bar
         requires { number < 65535 }
         ensures number { result.number ≡ number }

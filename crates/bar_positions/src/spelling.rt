@@ -10,9 +10,11 @@ ghost use Rattle.bar_positions.specs.Spellings.{Held, position_text, position_sp
 use crate::position::{BarPosition, BarPositions};
 use forms::form::{TextForm, WrittenForm};
 use refusal::Refusal;
-use std::str;
-use text::decimal::width;
+use text::decimal::{read_number, width};
 use text::writer::TextWriter;
+
+// The most bytes that a position's text has, and some to spare.
+const MOST_TEXT: usize = 20;
 
 impl BarPosition {
     // A position that no table has, to stand for a text that writes none: a deck asks of a cue's number before it asks of
@@ -33,13 +35,18 @@ impl BarPosition {
         ensures own { (v : BarPosition) → Held v → text.now ≡ position_text v → result ≡ Some v }
         ensures held { IfSome result Held }
     {
-        let text = str::from_utf8(text).ok()?;
-        let (bar, rest) = text.split_once('.')?;
-        let (beat, tick) = rest.split_once('.')?;
+        // No position has a longer text, and so a long one is not read through.
+        if text.len() > MOST_TEXT {
+            return None;
+        }
+        let mut parts = text.splitn(3, |b| *b == b'.');
+        let bar = parts.next()?;
+        let beat = parts.next()?;
+        let tick = parts.next()?;
         Some(BarPosition {
-            bar: bar.parse().ok()?,
-            beat: beat.parse().ok()?,
-            tick: tick.parse().ok()?,
+            bar: u16::try_from(read_number(bar)?).ok()?,
+            beat: u8::try_from(read_number(beat)?).ok()?,
+            tick: u32::try_from(read_number(tick)?).ok()?,
         })
     }
 
@@ -64,16 +71,19 @@ impl BarPosition {
         if !self.fits(w) {
             return Err(Refusal::ShortBuffer);
         }
-        w.number_then(u64::from(self.bar), b'.')?;
-        w.number_then(u64::from(self.beat), b'.')?;
+        // There is room for the whole, so no part asks for its own, as `number_then` would.
+        w.number(u64::from(self.bar))?;
+        w.byte(b'.')?;
+        w.number(u64::from(self.beat))?;
+        w.byte(b'.')?;
         w.number(u64::from(self.tick))
     }
 
-    // Whether a text is the position's own; 20 bytes are enough for any.
+    // Whether a text is the position's own.
     fn has_text(self, text: &[u8]) -> bool
         ensures { result ≡ bytes_eq (position_text self) text.now }
     {
-        let mut buffer = [0; 20];
+        let mut buffer = [0; MOST_TEXT];
         let mut w = TextWriter::new(&mut buffer);
         self.write_text(&mut w).is_ok() && w.text() == text
     }

@@ -59,11 +59,16 @@ fn answer(rt: &HostRuntime, deck: &mut LabelDeck<'_>, line: &[u8]) -> io::Result
     }
 }
 
-// Each call is carried out as it is read.
+// Each call is carried out as it is read. One buffer serves every line: `split` would take memory for each anew.
 fn serve(rt: &HostRuntime, deck: &mut LabelDeck<'_>) -> io::Result<()> {
-    let input = BufReader::new(rt.alloc(), rt.stdin())?;
-    for line in input.split(rt.alloc(), b'\n') {
-        answer(rt, deck, &line?)?;
+    let mut input = BufReader::new(rt.alloc(), rt.stdin())?;
+    let mut line = Vec::new(rt.alloc());
+    for _ in 0..u64::MAX {
+        line.clear();
+        if input.read_until(b'\n', &mut line)? == 0 {
+            break;
+        }
+        answer(rt, deck, &line)?;
     }
     Ok(())
 }

@@ -76,6 +76,9 @@ module _ {V W : Type 0} (w : World V W) (a : List (Call V)) (k : Kept V W w a) w
         ∙ ap (λ b. checked range held bad b (leb w.places (numbers_in a))) e4
         ∙ ap (λ b. checked range held bad past b) (ap (leb w.places) (numbers_in_is w a k) ∙ e5)
 
+    pub add_range : out_of_range n ≡ true → refusal w a (Add n v) ≡ Some CueOutOfRange
+    add_range e = asked true _ _ _ _ e refl refl refl refl
+
     pub add_in : out_of_range n ≡ false → has n (book_of w a) ≡ true → refusal w a (Add n v) ≡ Some CueAlreadyIn
     add_in e1 e2 = asked false true _ _ _ e1 e2 refl refl refl
 
@@ -108,6 +111,9 @@ module _ {V W : Type 0} (w : World V W) (a : List (Call V)) (k : Kept V W w a) w
     struck_by range held e1 e2 =
         ap (λ b. first ((b, CueOutOfRange) ∷ (not (is_some (stands n a)), CueNotIn) ∷ [])) e1
         ∙ ap (λ b. first ((range, CueOutOfRange) ∷ (not b, CueNotIn) ∷ [])) (sym (has_stands n) ∙ e2)
+
+    pub strike_range : out_of_range n ≡ true → refusal w a (Strike n) ≡ Some CueOutOfRange
+    strike_range e = struck_by true _ e refl
 
     pub strike_out : out_of_range n ≡ false → has n (book_of w a) ≡ false → refusal w a (Strike n) ≡ Some CueNotIn
     strike_out e1 e2 = struck_by false false e1 e2

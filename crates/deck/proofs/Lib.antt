@@ -6,3 +6,4 @@ pub mod Ranges
 pub mod Rows
 pub mod Steps
 pub mod Sought
+pub mod Worlds

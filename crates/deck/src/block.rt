@@ -22,8 +22,15 @@ impl<'m, C: Timebase, F: WrittenForm, L: WrittenTimebase> Deck<'m, C, F, L> {
     pub(crate) fn row(&self, from: u64, until: u64) -> Range<usize>
         ensures { Row F.Value (C.meaning self.now.pile) (cues self.now.book) from until result.start result.end }
     {
-        let start = self.book.below(self.pile.locate(from));
-        let end = self.book.below(self.pile.locate(until));
+        let low = self.pile.locate(from);
+        let high = self.pile.locate(until);
+        let start = self.book.below(low);
+        // Where no position lies between, as in most short blocks, the first halving tells both ends.
+        let end = if low == high {
+            start
+        } else {
+            self.book.below(high)
+        };
         start..end
     }
 }

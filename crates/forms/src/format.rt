@@ -19,8 +19,8 @@ struct FormatValues {
     separator: char,
 }
 
-// A row for each format, in the order of the cases.
-const FORMATS: [FormatValues; 4] = [
+// A row for each format, in the order of the cases. A static, read where it lies: a const is built anew at each question.
+static FORMATS: [FormatValues; 4] = [
     FormatValues {
         rate: 24,
         drops: false,

@@ -43,7 +43,8 @@ fn write_number(w: &mut TextWriter, lead: &[u8], n: u64) -> Result<(), Refusal>
         return Err(Refusal::ShortBuffer);
     }
     w.word(lead)?;
-    w.number_then(n, b'\n')
+    w.number(n)?;
+    w.byte(b'\n')
 }
 
 // The line of an answer, of which nothing is written where it does not fit whole; 32 bytes are enough for any.

@@ -8,8 +8,8 @@ use crate::request::Verb;
 pub(crate) fn cut(line: &str) -> (&str, Option<&str>)
     ensures { words line.now ≡ result.0.now ∷ rest_words result.1 }
 {
-    match line.split_once(' ') {
-        Some((word, rest)) => (word, Some(rest)),
+    match line.bytes().position(|b| b == b' ') {
+        Some(end) => (&line[..end], Some(&line[end + 1..])),
         None => (line, None),
     }
 }

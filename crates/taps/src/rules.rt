@@ -23,10 +23,15 @@ fn never_back(samples: &[u64]) -> bool
     samples.is_sorted_by(|before, next| before <= next)
 }
 
+// Whether none of the samples, which are in order, is past the last sample: the last of them is the highest.
 fn all_exist(samples: &[u64]) -> bool
+    requires { IsNonDecreasing samples.now }
     ensures { IsTrue result ↔ EachIndex samples.now (λ k. slice_index samples.now k ≤ last_sample) }
 {
-    samples.iter().all(|sample| *sample <= LAST_SAMPLE)
+    let [.., last] = samples else {
+        return true;
+    };
+    *last <= LAST_SAMPLE
 }
 
 // Whether no entry is lower than the one before it or past the last sample.

@@ -5,8 +5,9 @@
 --   sum_at_next  the sum at the next row
 --   sum_fits     which is small
 --   summed_more  one more row with its sum, put last
+--   Turn         a row after the first: it lies later than the row before, and what its sum is made of is small
 -- Assumes nothing.
-use Rattle.std.proofs.Common.{◌≡◌, ℕ, zero, suc, ◌+◌, ◌-◌, ◌^◌, ◌<◌, ◌≤◌, true, List, [], ◌∷◌, ◌++◌, length, get_or, map, sum, take, drop, refl, sym, ap, ◌∙◌, arith, below_more}
+use Rattle.std.proofs.Common.{◌≡◌, ℕ, zero, suc, ◌+◌, ◌-◌, ◌^◌, ◌<◌, ◌≤◌, true, List, [], ◌∷◌, ◌++◌, length, get_or, map, sum, take, drop, refl, sym, ap, ◌∙◌, subst, arith, below_more}
 use Rattle.std.proofs.Math.ListN.{get_or-map}
 use Rattle.std.proofs.lemmas.List.{length_push, get_or_push, get_or_append_left, get_or-take, take_more, take_rest, map-append}
 use Rattle.std.proofs.lemmas.List.Sums.{sum_by-cons}
@@ -19,7 +20,7 @@ use Rattle.tempo.specs.Rules.{rows_kept}
 use Rattle.tempo.specs.Micros.{no_row, no_sum, rows_in, stretch, whole_stretch, sum_after, micros, micros_before}
 use Rattle.tempo.specs.declared.row.TempoRow.{TempoRow}
 use Rattle.tempo.specs.declared.row.SummedRow.{SummedRow}
-use Rattle.tempo.specs.Whole.{Placed, placed_at, some_rows, sum_le}
+use Rattle.tempo.specs.Whole.{Placed, Linked, placed_at, linked_at, some_rows, sum_le}
 use Rattle.tempo.specs.Found.{micros_end}
 
 from_sum : (r : TempoRow) (rest : List TempoRow) →
@@ -96,4 +97,21 @@ summed_more rows items after i r v l w is at e =
           (λ k h. ap (λ xs. (get_or xs k no_sum).sum) e
           ∙ ap (λ (x : SummedRow). x.sum) (get_or_append_left items (held ∷ []) no_sum k (omega (arith, w.long))) ∙ w.sums k h)
           (ap (λ xs. (get_or xs i no_sum).sum) e ∙ ap (λ (x : SummedRow). x.sum) (get_or_push items held no_sum i w.long) ∙ at);
+    }
+
+pub record Turn (rows : List TempoRow) (i : ℕ) : Type 0 where
+  pub later : (get_or rows (i - 1) no_row).tick ≤ (get_or rows i no_row).tick
+  pub sum : micros_before rows i ≡ micros_before rows (i - 1) + whole_stretch (get_or rows (i - 1) no_row) (get_or rows i no_row)
+  pub small : micros_before rows i ≤ 2 ^ 54
+
+pub turn : (rows : List TempoRow) (last i : ℕ) → rows_kept rows last ≡ true → 1 ≤ i → i < length rows → Turn rows i
+turn rows last i k a l =
+    let e : i - 1 + 1 ≡ i = omega arith in
+    let h : Linked rows (i - 1) = linked_at rows last (i - 1) k (omega arith) in
+    let before = get_or rows (i - 1) no_row in
+    let later = subst (λ n. before.tick < (get_or rows n no_row).tick) e h.later in
+    record {
+      later = omega (arith, later);
+      sum = subst (λ n. micros_before rows n ≡ micros_before rows (i - 1) + whole_stretch before (get_or rows n no_row)) e h.sum;
+      small = sum_fits rows last i k l;
     }

@@ -32,7 +32,7 @@ impl TempoRow {
     pub(crate) fn up_to(self, next: TempoRow) -> u64
         ensures { result ≡ whole_stretch self next }
     {
-        self.stretch(u64::from(next.tick))
+        u64::from(next.tick.saturating_sub(self.tick)) * u64::from(self.q)
     }
 }
 

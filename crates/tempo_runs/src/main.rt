@@ -5,6 +5,7 @@
 use crate::edges::edges;
 use crate::plans::{PLANS, Plan};
 use crate::tries::all_tried;
+use std::io;
 use tempo::map::TempoMap;
 use tempo::row::TempoRow;
 use trials::failure::Failure;
@@ -37,7 +38,7 @@ fn run(rt: &HostRuntime, plan: Plan, rows: &[TempoRow], sample_rate: u32) -> Res
     }
 }
 
-fn main(rt: HostRuntime) -> Result<(), Failure> {
+fn main(rt: HostRuntime) -> io::Result<()> {
     let mut located: u64 = 0;
     for row in PLANS {
         let plan = Plan::from(row);
@@ -47,6 +48,5 @@ fn main(rt: HostRuntime) -> Result<(), Failure> {
         }
     }
     println!(rt; "located {located} ticks")?;
-    edges(&rt)?;
-    Ok(())
+    edges(&rt)
 }

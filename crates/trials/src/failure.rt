@@ -15,6 +15,18 @@ pub enum Failure {
     Io(io::Error),
 }
 
+// What `main` ends with: a line that was not written says why in the words of the system, as if nothing stood between.
+impl From<Failure> for io::Error {
+    ghost from_gives = { λ failure why. (cause : _) → failure ≡ Io cause → why ≡ cause };
+
+    fn from(failure: Failure) -> io::Error {
+        match failure {
+            Failure::Engine(_) => io::Error::other("no pile"),
+            Failure::Io(cause) => cause,
+        }
+    }
+}
+
 impl From<Refusal> for Failure {
     ghost from_gives = { λ why failure. failure ≡ Engine why };
 

@@ -80,12 +80,17 @@ fn pile(rt: &HostRuntime, plain: Ratio, table: MeterTable) -> Result<(), Failure
     Ok(())
 }
 
-fn main(rt: HostRuntime) -> Result<(), Failure> {
+fn run(rt: &HostRuntime) -> Result<(), Failure> {
     let frames = Ratio::new(48_048_000, 30_000, 2_589_409)?;
-    show(&rt, "frames", &frames, &[0, 1, 5, 2_589_408, 2_589_409])?;
+    show(rt, "frames", &frames, &[0, 1, 5, 2_589_408, 2_589_409])?;
     let plain = Ratio::new(1, 1, 100_000)?;
     let table = meter(1440)?;
-    meters(&rt, table)?;
-    each(&rt, plain, table)?;
-    pile(&rt, plain, table)
+    meters(rt, table)?;
+    each(rt, plain, table)?;
+    pile(rt, plain, table)
+}
+
+fn main(rt: HostRuntime) -> io::Result<()> {
+    run(&rt)?;
+    Ok(())
 }

@@ -6,9 +6,10 @@ mod tapped;
 
 use crate::listed::listed;
 use crate::tapped::tapped;
-use trials::failure::Failure;
+use std::io;
 
-fn main(rt: HostRuntime) -> Result<(), Failure> {
+fn main(rt: HostRuntime) -> io::Result<()> {
     tapped(&rt)?;
-    listed(&rt)
+    listed(&rt)?;
+    Ok(())
 }

@@ -3,7 +3,6 @@ use std::io;
 use taps::table::Taps;
 use timebase::base::{LAST_SAMPLE, Timebase};
 use trials::answered::Answered;
-use trials::failure::Failure;
 use trials::spot::asked;
 
 // A table of these samples, made or refused.
@@ -22,13 +21,14 @@ fn show(rt: &HostRuntime, taps: &Taps, positions: &[u64]) -> io::Result<()> {
     Ok(())
 }
 
-pub(crate) fn tapped(rt: &HostRuntime) -> Result<(), Failure> {
-    let taps = Taps::new(rt.alloc(), &[0, 100, 100, 250, LAST_SAMPLE])?;
-    show(rt, &taps, &[0, 1, 2, 3, 4, 5])?;
+// Without memory for the first table the others are tried all the same.
+pub(crate) fn tapped(rt: &HostRuntime) -> io::Result<()> {
+    if let Ok(taps) = Taps::new(rt.alloc(), &[0, 100, 100, 250, LAST_SAMPLE]) {
+        show(rt, &taps, &[0, 1, 2, 3, 4, 5])?;
+    }
     table(rt, "a table of no taps", &[])?;
     table(rt, "a table that falls", &[5, 4])?;
     table(rt, "a tap past the last sample", &[0, LAST_SAMPLE + 1])?;
     table(rt, "a table of 4096 taps", &[7; 4096])?;
-    table(rt, "a table of 4097 taps", &[7; 4097])?;
-    Ok(())
+    table(rt, "a table of 4097 taps", &[7; 4097])
 }

@@ -1,6 +1,7 @@
 -- The position current at a sample, from what locate answers.
 --   stands_past     past the last sample none is current
---   stands_edge     nor where locate answers the length
+--   stands_first    nor where locate answers 0
+--   stands_edge     nor where it answers the length
 --   stands_before   elsewhere it is the position before the one located, and none where that is 0
 -- Assumes nothing.
 use Rattle.std.proofs.Common.{◌≡◌, ◌≢◌, ℕ, zero, suc, ◌+◌, ◌-◌, ◌<◌, ◌≤◌, nat_lt, SomeIff, Option, Some, None, refl, sym, ap, ◌∙◌, inl, inr, arith}
@@ -20,6 +21,13 @@ one_before n (suc r) None inside off is = absurd (is (omega arith))
 one_before n (suc r) (Some p) inside off is =
     let e : p ≡ r = omega (arith, is.1) in
     ap Some e ∙ sym (cond-true (nat_lt (suc r) n) (Some r) None (lt-ltb (suc r) n (omega (arith, off))))
+
+none_before : (n r : ℕ) → SomeIff None (1 ≤ r) (r - 1) → None ≡ last_before n r
+none_before n zero is = refl
+none_before n (suc r) is = absurd (is (omega arith))
+
+pub stands_first : (m : Meaning) (s r : ℕ) → Sound m → Least m (s + 1) r → SomeIff None (1 ≤ r) (r - 1) → None ≡ standing m s
+stands_first m s r sound least is = none_before m.len r is ∙ ap (last_before m.len) (least_located m sound (s + 1) r least)
 
 pub stands_edge : (m : Meaning) (s r : ℕ) → Sound m → Least m (s + 1) r → r ≡ m.len → None ≡ standing m s
 stands_edge m s r sound least edge =

@@ -70,8 +70,10 @@ fn standing_at<T: Timebase>(pile: &T, s: u64) -> Option<u64>
         return None;
     }
     let next = pile.locate(s + 1);
+    // The length is asked for last: a layer may have to work it out.
+    let before = next.checked_sub(1)?;
     if next == pile.len() {
         return None;
     }
-    next.checked_sub(1)
+    Some(before)
 }
