@@ -13,7 +13,7 @@ use refusal::Refusal;
 use text::decimal::{read_number, width};
 use text::writer::TextWriter;
 
-// The most bytes that a position's text has, and some to spare.
+// The most bytes that a position's text has: of 5, 3 and 10 digits, and two full stops.
 const MOST_TEXT: usize = 20;
 
 impl BarPosition {
@@ -71,7 +71,7 @@ impl BarPosition {
         if !self.fits(w) {
             return Err(Refusal::ShortBuffer);
         }
-        // There is room for the whole, so no part asks for its own, as `number_then` would.
+        // There is room for the whole, so no number's digits are counted again with its full stop, as by `number_then`.
         w.number(u64::from(self.bar))?;
         w.byte(b'.')?;
         w.number(u64::from(self.beat))?;

@@ -18,7 +18,7 @@ pub(crate) fn block_end(head: u64, count: u64) -> Option<u64>
 
 impl<'m, C: Timebase, F: WrittenForm, L: WrittenTimebase> Deck<'m, C, F, L> {
     // Where the cues from one sample to below another stand in the book. Since samples never fall along positions,
-    // they stand in a row, and two halvings find its ends.
+    // they stand in a row, and two halvings at most find its ends.
     pub(crate) fn row(&self, from: u64, until: u64) -> Range<usize>
         ensures { Row F.Value (C.meaning self.now.pile) (cues self.now.book) from until result.start result.end }
     {
